@@ -1,0 +1,25 @@
+//! Laws of the gates, for whoever raises signals to X or simplifies logic. They compute nothing.
+
+ghost use Rattle.rdc_tern.specs.Algebra.{Algebra};
+ghost use Rattle.rdc_tern.specs.Kleene.{SelectsEquals};
+ghost use Rattle.rdc_tern.specs.Monotone.{JoinIsLeast, Monotone};
+
+/// Inputs that are raised to X leave each output as it was, or raise it to X.
+pub fn operations_are_monotone()
+    ensures { Monotone }
+{}
+
+/// `join` is the least value below which both lie.
+pub fn join_is_least()
+    ensures { JoinIsLeast }
+{}
+
+/// Commutativity, associativity, idempotence and double negation, where they hold.
+pub fn kleene_algebra()
+    ensures { Algebra }
+{}
+
+/// A selection between equals is theirs where it is settled, and X between ones where it isn't.
+pub fn selection_of_equals()
+    ensures { SelectsEquals }
+{}

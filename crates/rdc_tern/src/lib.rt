@@ -1,0 +1,15 @@
+//! Ternary values: 0, 1, and X for a signal that has not settled.
+//!
+//! Each gate is Kleene's table (`specs/Kleene.antt`), and an input raised to X leaves the output as it was or raises
+//! it to X (`specs/Monotone.antt`); the algebra that optimisers may use is in `specs/Algebra.antt`.
+//! Ground: stands on nothing. The net and the event model compute with it.
+#![tactic(auto)]
+
+mod laws;
+mod value;
+
+pub use laws::{join_is_least, kleene_algebra, operations_are_monotone, selection_of_equals};
+pub use value::Tern;
+
+#[cfg(test)]
+mod tests;
