@@ -1,0 +1,19 @@
+//! Nets of gates, as everything above sees them.
+//!
+//! A `View` is a list of gates over sources (`specs/View.antt`); a `FlopNet` is a view whose sources have names and
+//! kinds, with named bits (`specs/FlopNet.antt`). `eval_into` gives each node the ternary value of its gate, and
+//! raising sources to X raises nodes (`specs/Values.antt`).
+//! The net: stands on `rdc_tern`. The event model and every analysis are generic over these traits.
+#![tactic(auto)]
+
+mod evaluation;
+mod flop_net;
+mod gate;
+mod laws;
+mod view;
+
+pub use evaluation::eval_into;
+pub use flop_net::{FlopNet, FlopOf, SrcKind};
+pub use gate::Gate;
+pub use laws::{one_valuation, settled_in_settled_out};
+pub use view::View;
