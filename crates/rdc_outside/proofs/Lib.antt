@@ -1,0 +1,5 @@
+pub mod CountsLemmas
+mod FileLemmas
+pub mod ForCallers
+mod PileLemmas
+pub mod SinkLemmas

@@ -1,0 +1,10 @@
+pub mod Counts
+pub mod Disk
+pub mod Shelf
+pub mod Log
+pub mod MemoryShelf
+pub mod MemorySink
+pub mod Output
+pub mod Pile
+pub mod Sink
+pub mod Status
