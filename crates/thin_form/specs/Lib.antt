@@ -1,0 +1,14 @@
+pub mod Tokens
+pub mod Tree
+pub mod Spelling
+pub mod Identifiers
+pub mod Rules
+pub mod Design
+pub mod Meaning
+pub mod Source
+pub mod Entries
+pub mod Written
+pub mod Reading
+pub mod Runs
+pub mod Numbers
+pub mod Order
