@@ -1,0 +1,5 @@
+-- The lemmas.
+pub mod Declared
+pub mod FormsLemmas
+pub mod LinesLemmas
+pub mod RolesLemmas
