@@ -1,0 +1,17 @@
+pub mod Order
+pub mod Places
+pub mod Sweep
+pub mod Steps
+pub mod Rules
+pub mod SafeLemmas
+pub mod Power
+pub mod AgreesLemmas
+pub mod ExampleMachine
+pub mod ExampleLemmas
+pub mod Progress
+pub mod NetLemmas
+pub mod Options
+pub mod Reading
+pub mod Passed
+pub mod Answered
+pub mod ExampleNetLemmas
