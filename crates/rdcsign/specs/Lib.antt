@@ -1,0 +1,12 @@
+pub mod Request
+pub mod Verdict
+pub mod Report
+pub mod Draft
+pub mod Outcome
+pub mod Ends
+pub mod Loads
+pub mod Answers
+pub mod Signoff
+pub mod DesignMachine
+pub mod Headline
+pub mod PlainNet

@@ -1,0 +1,121 @@
+//! The work of a request: its two files, and the judgement on what they say.
+
+ghost use Rattle.std.specs.Prelude.{◌≡◌, ◌≤◌, ℕ, length, IfOk, IfErr};
+ghost use Rattle.thin_form.specs.Source.{Spells};
+ghost use Rattle.thin_form.specs.Design.{IsLawful};
+ghost use Rattle.thin_cons.specs.Roles.{Declares};
+ghost use Rattle.rdcsign.specs.declared.loading.TheConstants.{MOST};
+ghost use Rattle.rdcsign.specs.Request.{seen, texts};
+ghost use Rattle.rdcsign.specs.Outcome.{refused};
+ghost use Rattle.rdcsign.specs.Ends.{IsJudgement};
+ghost use Rattle.rdcsign.specs.Loads.{CountsRefusal};
+ghost use Rattle.rdcsign.specs.Answers.{outcome_of, IsNoDesign, AreNoRoles, EndsListed, EndsWords};
+
+use crate::loading::load_file;
+use crate::refusal::Refusal;
+use crate::report::{Judgement, judge};
+use crate::request::{Request, read_words};
+use rdc_outside::Shelf;
+use std::alloc::Global;
+use thin_cons::{ConsFault, Roles, declare};
+use thin_form::{Design, FormFault};
+
+/// The design that the source spells.
+fn read_design<'a, 'b>(
+    alloc: Global,
+    request: &Request<'a>,
+    source: &'b [u8],
+) -> Result<Design<'b>, Refusal<'a>>
+    requires { length source.now ≤ MOST }
+    ensures design { IfOk result (λ d. Spells request.now.top.now source.now d) }
+    ensures lawful { IfOk result (λ d. IsLawful d) }
+    ensures refused { IfErr result (λ r. IsNoDesign (seen request.now) source.now (refused r)) }
+{
+    match thin_form::read(alloc, request.top.as_bytes(), source) {
+        Ok(design) => {
+            let _sources = design.len();
+            Ok(design)
+        }
+        Err(FormFault::Memory) => Err(Refusal::Memory),
+        Err(FormFault::NotOfForm) => Err(Refusal::NotYet(request.file)),
+    }
+}
+
+/// The roles that the constraints give the sources of the design.
+fn read_roles<'a>(
+    alloc: Global,
+    request: &Request<'a>,
+    design: &Design,
+    constraints: &[u8],
+) -> Result<Roles, Refusal<'a>>
+    ensures roles { IfOk result (λ roles. Declares design.now constraints.now roles) }
+    ensures fit { IfOk result (λ roles. length roles ≡ length design.now) }
+    ensures refused { IfErr result (λ r. AreNoRoles (seen request.now) design.now constraints.now (refused r)) }
+{
+    match declare(alloc, design, constraints) {
+        Ok(roles) => Ok(roles),
+        Err(ConsFault::Memory) => Err(Refusal::Memory),
+        Err(ConsFault::NotOfForm) => Err(Refusal::NotYet(request.constraints)),
+    }
+}
+
+/// The judgement on the bytes of the two files. The source is looked at first.
+fn judge_bytes<'a>(
+    alloc: Global,
+    request: &Request<'a>,
+    constraints: &[u8],
+    source: &[u8],
+) -> Result<Judgement, Refusal<'a>>
+    requires { length source.now ≤ MOST }
+    ensures { IsJudgement (seen request.now) constraints.now source.now (outcome_of result) }
+{
+    let design = match read_design(alloc, request, source) {
+        Ok(design) => design,
+        Err(refusal) => return Err(refusal),
+    };
+    let roles = match read_roles(alloc, request, &design, constraints) {
+        Ok(roles) => roles,
+        Err(refusal) => return Err(refusal),
+    };
+    match judge(alloc, request.top, &design, &roles) {
+        Ok(judgement) => Ok(judgement),
+        Err(_) => Err(Refusal::Memory),
+    }
+}
+
+/// What comes of a request.
+fn check<'a, S: Shelf>(
+    alloc: Global,
+    request: &Request<'a>,
+    shelf: &mut S,
+) -> Result<Judgement, Refusal<'a>>
+    ensures ends { EndsListed (S.files shelf.old) (seen request.now) (outcome_of result) (S.calls shelf.old) (S.calls shelf.new) }
+    ensures files { S.files shelf.new ≡ S.files shelf.old }
+    ensures counted { CountsRefusal (outcome_of result) (S.absences shelf.old) (S.absences shelf.new) (S.faults shelf.old) (S.faults shelf.new) }
+{
+    let constraints = match load_file(alloc, shelf, request.constraints) {
+        Ok(bytes) => bytes,
+        Err(refusal) => return Err(refusal),
+    };
+    let source = match load_file(alloc, shelf, request.file) {
+        Ok(bytes) => bytes,
+        Err(refusal) => return Err(refusal),
+    };
+    judge_bytes(alloc, request, &constraints, &source)
+}
+
+/// What comes of the words.
+pub fn answer<'a, S: Shelf>(
+    alloc: Global,
+    words: &'a [String],
+    shelf: &mut S,
+) -> Result<Judgement, Refusal<'a>>
+    ensures ends { EndsWords (S.files shelf.old) (texts words.now) (outcome_of result) (S.calls shelf.old) (S.calls shelf.new) }
+    ensures files { S.files shelf.new ≡ S.files shelf.old }
+    ensures counted { CountsRefusal (outcome_of result) (S.absences shelf.old) (S.absences shelf.new) (S.faults shelf.old) (S.faults shelf.new) }
+{
+    match read_words(words) {
+        Some(request) => check(alloc, &request, shelf),
+        None => Err(Refusal::Usage),
+    }
+}
