@@ -1,19 +1,16 @@
 -- Serves specs/Values.antt: a gate's value depends on what it reads alone, keeps the order, and fixes the net's values.
-use Rattle.std.proofs.Common.{◌≡◌, ◌≢◌, ℕ, zero, suc, ◌+◌, ◌<◌, ◌≤◌, Bool, true, false, append_assoc, List, [], ◌∷◌, ◌++◌, length, get_or, set, refl, sym, ap, ◌∙◌, subst, inl, inr, ◌⊎◌, Option, Some, None, arith, rules, get_or-set_other, get_or-set_same}
-use Rattle.std.specs.Prelude.{slice_get}
+use Rattle.std.proofs.Common.{◌≡◌, ◌≢◌, ℕ, zero, suc, ◌+◌, ◌<◌, ◌≤◌, true, false, append_assoc, List, [], ◌∷◌, ◌++◌, length, set, refl, sym, ap, ◌∙◌, subst, inl, inr, Option, Some, arith, rules, get_or-set_other, get_or-set_same}
 use Rattle.std.proofs.lemmas.Bool.{cases_lt}
 use Rattle.std.proofs.lemmas.List.{get_or_past, get_or_append_left, get_or_push, get_or_at, append-nil, length-append, drop_all}
 use Rattle.std.proofs.lemmas.List.Prefix.{front_from_reads}
 use Rattle.std.proofs.lemmas.Option.{slice_get_within, slice_get_cases, slice_get_read}
-use Rattle.std.proofs.lemmas.Grind.{common_steps}
 use Rattle.rdc_tern.specs.declared.value.Tern.{Tern}
-use Rattle.rdc_tern.specs.declared.value.Tern.TheVariants.{Zero, One, Unsettled}
+use Rattle.rdc_tern.specs.declared.value.Tern.TheVariants.{Unsettled}
 use Rattle.rdc_tern.specs.Kleene.{not_of, and_of, or_of, xor_of, join_of, IsBelow, IsSettled}
 use Rattle.net_view.specs.FlopNet.{IsPlain}
-use Rattle.net_view.specs.declared.gate.Gate.{Gate}
 use Rattle.net_view.specs.declared.gate.Gate.TheVariants.{Const, Source, Not, And, Or, Xor, Pick, Lift}
 use Rattle.net_view.specs.View.{Numbered, Reads, IsGateAt, IsNet}
-use Rattle.net_view.specs.Values.{State, at, settled, pick_of, lift_of, gate_value, IsValuation, IsRaised, values, values_after}
+use Rattle.net_view.specs.Values.{State, at, pick_of, lift_of, gate_value, IsValuation, IsRaised, values, values_after}
 
 abbrev some : Numbered → Option Numbered
 some g = Some g
@@ -87,7 +84,7 @@ valued_step : (gates : List Numbered) (count : ℕ) (x : State) (before after : 
     → IsGateAt gates n h → at after n ≡ gate_value x (at before) h → ValuedBelow gates x before n → ValuedBelow gates x after (n + 1)
 valued_step gates count x before after n h net kept is-h here valued =
     let again : (k : ℕ) (g : Numbered) → k < n + 1 → IsGateAt gates k g → gate_value x (at before) g ≡ gate_value x (at after) g = λ k g lt is.
-        gate_value_same x x (at before) (at after) g (reads_more (λ j. j < k) (λ s. s < count) (λ j. at before j ≡ at after j) (λ s. x s ≡ x s) g (λ j below. kept j (omega arith)) (λ s below. refl) (net.lower k g is)) in
+    gate_value_same x x (at before) (at after) g (reads_more (λ j. j < k) (λ s. s < count) (λ j. at before j ≡ at after j) (λ s. x s ≡ x s) g (λ j below. kept j (omega arith)) (λ s below. refl) (net.lower k g is)) in
     record {
       each = λ k g lt is. elim (cases_lt k n) [
         | inl below ↦ sym (kept k below) ∙ valued.each k g below is ∙ again k g lt is
@@ -104,14 +101,14 @@ pub valued_more : (gates : List Numbered) (count : ℕ) (x : State) (values : Li
     → IsGateAt gates n h → v ≡ gate_value x (at values) h → ValuedBelow gates x values n → ValuedBelow gates x (set values n v) (n + 1)
 valued_more gates count x values n v h net inside is-h v-is before =
     valued_step gates count x values (set values n v) n h net (λ j lt. let ne : j ≢ n = omega arith in sym (get_or-set_other values n j v Unsettled ne)) is-h
-      (get_or-set_same values n v Unsettled inside ∙ v-is) before
+    (get_or-set_same values n v Unsettled inside ∙ v-is) before
 
 -- a value put at the end
 valued_push : (gates : List Numbered) (count : ℕ) (x : State) (values : List Tern) (h : Numbered) → IsNet gates count → IsGateAt gates (length values) h
     → ValuedBelow gates x values (length values) → ValuedBelow gates x (values ++ gate_value x (at values) h ∷ []) (length values + 1)
 valued_push gates count x values h net is-h before =
     valued_step gates count x values (values ++ gate_value x (at values) h ∷ []) (length values) h net
-      (λ j lt. sym (get_or_append_left values (gate_value x (at values) h ∷ []) Unsettled j lt)) is-h (get_or_push values (gate_value x (at values) h) Unsettled (length values) refl) before
+    (λ j lt. sym (get_or_append_left values (gate_value x (at values) h ∷ []) Unsettled j lt)) is-h (get_or_push values (gate_value x (at values) h) Unsettled (length values) refl) before
 
 pub valued_all : (gates : List Numbered) (x : State) (values : List Tern) (n : ℕ) → length gates ≤ n → length values ≡ length gates → ValuedBelow gates x values n → IsValuation gates x values
 valued_all gates x values n all len before = record {
@@ -156,7 +153,7 @@ valued_behind gates count x front (g ∷ rest) known net parts len valued =
     let more = known ++ gate_value x (at known) g ∷ [] in
     let more-len : length more ≡ length known + 1 = length-append known (gate_value x (at known) g ∷ []) in
     valued_behind gates count x (front ++ g ∷ []) rest more net (append_assoc front (g ∷ []) rest ∙ parts) (more-len ∙ ap (λ (n : ℕ). n + 1) len ∙ sym (length-append front (g ∷ [])))
-      (subst (λ (n : ℕ). ValuedBelow gates x more n) (sym more-len) (valued_push gates count x known g net is valued))
+    (subst (λ (n : ℕ). ValuedBelow gates x more n) (sym more-len) (valued_push gates count x known g net is valued))
 
 -- from left to right each node gets its gate's value
 pub values_valued : (gates : List Numbered) (count : ℕ) (x : State) → IsNet gates count → IsValuation gates x (values gates x)
@@ -174,8 +171,8 @@ pub valuation_is : (gates : List Numbered) (count : ℕ) (x : State) (found : Li
 valuation_is gates count x found net valued =
     let known = values_valued gates count x net in
     equal_lists found (values gates x) (valued.whole ∙ sym known.whole)
-      (λ k. equal_both_ways (at found k) (at (values gates x) k) (raised_values gates count x x found (values gates x) net (λ s. inl refl) valued known k)
-        (raised_values gates count x x (values gates x) found net (λ s. inl refl) known valued k))
+    (λ k. equal_both_ways (at found k) (at (values gates x) k) (raised_values gates count x x found (values gates x) net (λ s. inl refl) valued known k)
+    (raised_values gates count x x (values gates x) found net (λ s. inl refl) known valued k))
 
 not_settled : (a : Tern) → IsSettled a → IsSettled (not_of a)
 not_settled a h = search rules
@@ -207,10 +204,10 @@ settled_below gates count x found net plain all valued zero k g lt is = absurd (
 settled_below gates count x found net plain all valued (suc n) k g lt is =
     let inside : k < length gates = slice_get_within gates k g is in
     let fan_ins = reads_more (λ j. j < k) (λ s. s < count) (λ j. IsSettled (at found j)) (λ s. IsSettled (x s)) g
-      (λ j below. elim (slice_get_cases gates j).1 [
-        | inl here ↦ settled_below gates count x found net plain all valued n j here.0 (omega arith) here.2
-        | inr past ↦ absurd (omega (arith, past.0))
-      ]) (λ s below. all s) (net.lower k g is) in
+    (λ j below. elim (slice_get_cases gates j).1 [
+      | inl here ↦ settled_below gates count x found net plain all valued n j here.0 (omega arith) here.2
+      | inr past ↦ absurd (omega (arith, past.0))
+    ]) (λ s below. all s) (net.lower k g is) in
     subst IsSettled (sym (valued.each k g is)) (gate_value_settled x (at found) g (plain k g is) fan_ins)
 
 -- settled sources give settled nodes

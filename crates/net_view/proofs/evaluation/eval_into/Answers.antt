@@ -1,5 +1,5 @@
-use Rattle.std.proofs.Common.{◌≡◌, ◌<◌, ℕ, length, arith, sym, ap, subst}
-use Rattle.net_view.specs.View.{Numbered, IsGateAt, renumbered}
+use Rattle.std.proofs.Common.{◌<◌, ℕ, length, arith, subst}
+use Rattle.net_view.specs.View.{IsGateAt, renumbered}
 use Rattle.net_view.specs.Values.{at}
 use Rattle.net_view.proofs.ValuesLemmas.{reads_more, valued_more, valued_all, raised_values}
 use Rattle.net_view.proofs.evaluation.eval_into.Goals as goal
