@@ -205,17 +205,20 @@ fn the_first_file_that_is_not_loaded_is_named(rt: HostRuntime) -> Result<(), Fai
 #[test]
 fn a_sink_that_fails_keeps_a_front_of_the_report(rt: HostRuntime) -> Result<(), Fail> {
     let fronts = [
-        (1, ""),
-        (2, "rdc rep"),
-        (3, "rdc report 1\nt"),
-        (
-            10,
-            "rdc report 1\ntop m\nedge q crossing\nsame 1 crossing 1\nverdict cr",
-        ),
+        "",
+        "rdc rep",
+        "rdc report 1\nt",
+        "rdc report 1\ntop m\ned",
+        "rdc report 1\ntop m\nedge q cr",
+        "rdc report 1\ntop m\nedge q crossing\n",
+        "rdc report 1\ntop m\nedge q crossing\nsame 1 ",
+        "rdc report 1\ntop m\nedge q crossing\nsame 1 crossin",
+        "rdc report 1\ntop m\nedge q crossing\nsame 1 crossing 1\nver",
+        "rdc report 1\ntop m\nedge q crossing\nsame 1 crossing 1\nverdict cr",
     ];
-    for (failing_write, text) in fronts {
-        let mut failing = make_case(&CHECK, CONSTRAINTS, SOURCE);
-        failing.failing_write = failing_write;
+    let mut failing = make_case(&CHECK, CONSTRAINTS, SOURCE);
+    for text in fronts {
+        failing.failing_write = failing.failing_write.saturating_add(1);
         expect(&rt, &failing, Status::Write, text)?;
     }
     let mut refused = make_case(&CHECK, CONSTRAINTS, INITIAL);
