@@ -2,6 +2,9 @@ pub mod Order
 pub mod Places
 pub mod Sweep
 pub mod Steps
+pub mod Rounds
+pub mod Falls
+pub mod Ordered
 pub mod Rules
 pub mod SafeLemmas
 pub mod Power
@@ -15,3 +18,5 @@ pub mod Reading
 pub mod Passed
 pub mod Answered
 pub mod ExampleNetLemmas
+pub mod TreeNetLemmas
+pub mod PinOrders

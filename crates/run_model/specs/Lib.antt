@@ -17,3 +17,4 @@ pub mod Netlist
 pub mod Step
 pub mod Passes
 pub mod ExampleNet
+pub mod TreeNet

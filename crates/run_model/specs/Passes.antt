@@ -2,9 +2,10 @@
 --   written                          what a pass leaves
 --   is_unsettled, is_inactive        tests of a value and of a pin
 --   takes_unsettled, is_left         tests of a source, for an edge and for a Calm
+--   settled_count, FallsIf           how a round of raises changes a state
 --   lesser, better, least_of         the least source that passes a test
 --   answer_of, edge_of               the answer, and the event of an edge
-use Rattle.std.specs.Prelude.{ℕ, min, Bool, true, false, ◌&&◌, List, [], ◌∷◌, Option, None, Some}
+use Rattle.std.specs.Prelude.{◌≡◌, ℕ, ◌+◌, ◌<◌, min, Bool, true, false, ◌&&◌, List, [], ◌∷◌, Option, None, Some}
 use Rattle.rdc_tern.specs.declared.value.Tern.{Tern}
 use Rattle.rdc_tern.specs.declared.value.Tern.TheVariants.{Zero, One, Unsettled}
 use Rattle.run_model.specs.declared.event.Event.{Event}
@@ -25,6 +26,18 @@ abbrev pub is_unsettled : Tern → Bool
 is_unsettled Zero = false
 is_unsettled One = false
 is_unsettled Unsettled = true
+
+-- how many values are settled
+abbrev pub settled_count : List Tern → ℕ
+settled_count [] = 0
+settled_count (Zero ∷ vs) = 1 + settled_count vs
+settled_count (One ∷ vs) = 1 + settled_count vs
+settled_count (Unsettled ∷ vs) = settled_count vs
+
+-- from the first list to the second fewer values are settled, or nothing changes
+abbrev pub FallsIf : Bool → List Tern → List Tern → Type 0
+FallsIf true before now = settled_count now < settled_count before
+FallsIf false before now = now ≡ before
 
 -- whether a pin is settled inactive
 abbrev pub is_inactive : Phase → Bool

@@ -127,7 +127,6 @@ pub(crate) fn calm<V: FlopNet>(
     requires old_fits { length old.now ≡ V.source_count view.now }
     requires new_fits { length new.old ≡ V.source_count view.now }
     requires values_fit { length buf.old ≡ length (V.gates view.now) }
-    requires valued { buf.old ≡ values (V.gates view.now) (at old.now) }
     ensures step { (fixed : ℕ → Option Bool) →
         let net = net_of (V.gates view.now) (V.names view.now) (V.kinds view.now) (V.named_bits view.now) in
         Steps (machine_of net (level_of resets.now) fixed (map V.source_number order.now)) (at old.now) (Calm number) result (at new.new) }
@@ -136,6 +135,7 @@ pub(crate) fn calm<V: FlopNet>(
     if !is_x_at(old, number) {
         return Stepped::NotPossible;
     }
+    evaluate(view, old, buf);
     let Some(value) = settled_value(view, order, resets, number, buf) else {
         return Stepped::NotPossible;
     };

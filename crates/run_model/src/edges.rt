@@ -6,7 +6,7 @@ ghost use Rattle.net_view.specs.Values.{State, at, values};
 ghost use Rattle.run_model.specs.declared.answer.Stepped.TheVariants.{NotPossible};
 ghost use Rattle.run_model.specs.State.{with_value};
 ghost use Rattle.run_model.specs.Machine.{Phase};
-ghost use Rattle.run_model.specs.Laws.{ListsFlops};
+ghost use Rattle.run_model.specs.Laws.{IsOrdered};
 ghost use Rattle.run_model.specs.Event.{edge_value};
 ghost use Rattle.run_model.specs.Netlist.{net_of, sources_of, machine_of};
 ghost use Rattle.run_model.specs.Passes.{written, is_unsettled, is_inactive, takes_unsettled, better, least_of, edge_of};
@@ -177,18 +177,18 @@ pub(crate) fn edge<V: FlopNet>(
     buf: &mut [Tern],
 ) -> Stepped
     requires order_is_in { All (λ s. V.source_number s < V.source_count view.now) order.now }
-    requires lists { ListsFlops (sources_of (net_of (V.gates view.now) (V.names view.now) (V.kinds view.now) (V.named_bits view.now)))
-        (map V.source_number order.now) }
+    requires ordered { IsOrdered (machine_of (net_of (V.gates view.now) (V.names view.now) (V.kinds view.now) (V.named_bits view.now)) (λ n. None) (λ n. None)
+        (map V.source_number order.now)) }
     requires old_fits { length old.now ≡ V.source_count view.now }
     requires new_fits { length new.old ≡ V.source_count view.now }
     requires values_fit { length buf.old ≡ length (V.gates view.now) }
-    requires valued { buf.old ≡ values (V.gates view.now) (at old.now) }
     ensures step { (declared fixed : ℕ → Option Bool) →
         let net = net_of (V.gates view.now) (V.names view.now) (V.kinds view.now) (V.named_bits view.now) in
         Steps (machine_of net declared fixed (map V.source_number order.now)) (at old.now) (edge_of rising clock) result (at new.new) }
     ensures comes { result ≢ NotPossible }
 {
     new.copy_from_slice(old);
+    evaluate(view, old, buf);
     let least = least_taking(view, order, clock, rising, old, buf);
     clock_all(view, order, clock, rising, old, new, buf);
     evaluate(view, new, buf);

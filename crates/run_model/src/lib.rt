@@ -30,3 +30,5 @@ pub use theorems::{
 
 #[cfg(test)]
 mod tests;
+#[cfg(test)]
+mod tree_tests;

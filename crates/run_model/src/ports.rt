@@ -1,11 +1,12 @@
 //! What happens at the ports: a reset is struck or released, and the data inputs change.
 
-ghost use Rattle.std.specs.Prelude.{◌≡◌, ◌≢◌, ℕ, ◌<◌, not, Bool, Option, List, length, All, map};
+ghost use Rattle.std.specs.Prelude.{◌≡◌, ◌≢◌, ℕ, ◌<◌, not, Bool, Option, None, List, length, All, map};
 ghost use Rattle.rdc_tern.specs.declared.value.Tern.{Tern};
 ghost use Rattle.net_view.specs.Values.{State, at, values};
 ghost use Rattle.run_model.specs.State.{with_value};
 ghost use Rattle.run_model.specs.declared.event.Event.TheVariants.{Strike, Release, Drive};
 ghost use Rattle.run_model.specs.declared.answer.Stepped.TheVariants.{NotPossible};
+ghost use Rattle.run_model.specs.Laws.{IsOrdered};
 ghost use Rattle.run_model.specs.Up.{up_value, swept};
 ghost use Rattle.run_model.specs.Event.{driven};
 ghost use Rattle.run_model.specs.Netlist.{net_of, sources_of, level_of, machine_of};
@@ -41,6 +42,8 @@ fn put<V: FlopNet>(
 )
     requires port_is_in { port < V.source_count view.now }
     requires order_is_in { All (λ s. V.source_number s < V.source_count view.now) order.now }
+    requires ordered { IsOrdered (machine_of (net_of (V.gates view.now) (V.names view.now) (V.kinds view.now) (V.named_bits view.now)) (λ n. None) (λ n. None)
+        (map V.source_number order.now)) }
     requires old_fits { length old.now ≡ V.source_count view.now }
     requires new_fits { length new.old ≡ V.source_count view.now }
     requires values_fit { length buf.old ≡ length (V.gates view.now) }
@@ -65,6 +68,8 @@ pub(crate) fn strike<V: FlopNet>(
 ) -> Stepped
     requires port_is_in { port < V.source_count view.now }
     requires order_is_in { All (λ s. V.source_number s < V.source_count view.now) order.now }
+    requires ordered { IsOrdered (machine_of (net_of (V.gates view.now) (V.names view.now) (V.kinds view.now) (V.named_bits view.now)) (λ n. None) (λ n. None)
+        (map V.source_number order.now)) }
     requires old_fits { length old.now ≡ V.source_count view.now }
     requires new_fits { length new.old ≡ V.source_count view.now }
     requires values_fit { length buf.old ≡ length (V.gates view.now) }
@@ -95,6 +100,8 @@ pub(crate) fn release<V: FlopNet>(
 ) -> Stepped
     requires port_is_in { port < V.source_count view.now }
     requires order_is_in { All (λ s. V.source_number s < V.source_count view.now) order.now }
+    requires ordered { IsOrdered (machine_of (net_of (V.gates view.now) (V.names view.now) (V.kinds view.now) (V.named_bits view.now)) (λ n. None) (λ n. None)
+        (map V.source_number order.now)) }
     requires old_fits { length old.now ≡ V.source_count view.now }
     requires new_fits { length new.old ≡ V.source_count view.now }
     requires values_fit { length buf.old ≡ length (V.gates view.now) }
@@ -134,6 +141,8 @@ pub(crate) fn drive<V: FlopNet>(
 ) -> Stepped
     requires levels_are_in { All (λ x. x.0 < V.source_count view.now) levels.now }
     requires order_is_in { All (λ s. V.source_number s < V.source_count view.now) order.now }
+    requires ordered { IsOrdered (machine_of (net_of (V.gates view.now) (V.names view.now) (V.kinds view.now) (V.named_bits view.now)) (λ n. None) (λ n. None)
+        (map V.source_number order.now)) }
     requires old_fits { length old.now ≡ V.source_count view.now }
     requires new_fits { length new.old ≡ V.source_count view.now }
     requires values_fit { length buf.old ≡ length (V.gates view.now) }

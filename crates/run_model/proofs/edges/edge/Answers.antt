@@ -11,7 +11,7 @@ pub returns-clause-step : goal.returns-clause-step
 returns-clause-step g c = λ declared fixed.
     let net = net_of (g.V.View.gates c.args.view.now) (g.V.FlopNet.names c.args.view.now) (g.V.FlopNet.kinds c.args.view.now) (g.V.FlopNet.named_bits c.args.view.now) in
     let ns = map g.V.View.source_number c.args.order.now in
-    edge_steps (machine_of net declared fixed ns) c.requires.lists (at c.args.old.now) c.args.clock c.args.rising
+    edge_steps (machine_of net declared fixed ns) c.requires.ordered.listed (at c.args.old.now) c.args.clock c.args.rising
     c.least_taking-least.result c.answer_by.result (at c.raise_all.new.new) c.least_taking-least.ensures c.answer_by.ensures.value
     (c.raise_all.ensures.raised
     ∙ ap (λ u. swept up_value (sources_of net) ns u) (c.clock_all.ensures
