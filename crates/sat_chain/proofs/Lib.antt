@@ -1,0 +1,12 @@
+pub mod TextLemmas
+pub mod ListLemmas
+pub mod MarkLemmas
+pub mod StepLemmas
+pub mod StoreLemmas
+pub mod ChainLemmas
+pub mod SoundLemmas
+pub mod JudgeLemmas
+pub mod KeptLemmas
+pub mod LineLemmas
+pub mod NewLemmas
+pub mod PlacedLemmas

@@ -1,0 +1,31 @@
+-- The literals that are left are the union that is left.
+use Rattle.std.proofs.Common.{◌≡◌, ◌+◌, ◌<◌, ◌↔◌, ℕ, ℤ, [], pos, arith, rules, sym, ap, ◌∙◌, length, get_or, drop, None, nat_eq, IsTrue, true}
+use Rattle.std.proofs.lemmas.Bool.Decides.{nat_tests}
+use Rattle.std.proofs.lemmas.Grind.{common_steps}
+use mathlib.Core.Path.{fun_ext}
+use Rattle.sat_chain.specs.Resolvent.{sign_in}
+use Rattle.sat_chain.specs.Marks.{at, live_in, nothing}
+use Rattle.sat_chain.proofs.ChainLemmas.{live_nothing, nothing_live}
+use Rattle.sat_chain.proofs.StepLemmas.{union_more, ascend_rest, Is}
+use Rattle.sat_chain.proofs.marks.is_union.Goals as goal
+
+pub loop-lit-preserved : goal.loop-lit-preserved
+loop-lit-preserved c =
+    let rest = ascend_rest c.args.lits.now c.loop-lit.lit-index (pos 0) (omega arith) c.loop-lit.invariant.ascend in
+    let step = union_more (at c.loop-lit.marks) (at c.take_out.new.marks) c.args.lits.now c.loop-lit.lit-index (pos 0) (omega arith) (c.take_out.ensures.value.0 c.if-not-take_out.false) (c.take_out.ensures.union c.if-not-take_out.false) rest.1 in
+    record {
+      union = (λ h. c.loop-lit.invariant.union.0 (step.0 h), λ h. step.1 (c.loop-lit.invariant.union.1 h));
+      live = omega (arith, c.take_out.ensures.live c.if-not-take_out.false, c.loop-lit.invariant.live);
+      ascend = rest.0;
+    }
+
+pub returns-clause-value : goal.returns-clause-value
+returns-clause-value c =
+    let none : drop c.loop-lit.lit-index c.args.lits.now ≡ [] = grind (arith, common_steps) in
+    let union = rw none at c.loop-lit.invariant.union in (
+      λ yes. union.0 (nothing_live c.loop-lit.marks (sym c.loop-lit.invariant.live ∙ grind (arith, nat_tests, yes))),
+      λ h. (let zero : c.loop-lit.live ≡ 0 = c.loop-lit.invariant.live ∙ live_nothing c.loop-lit.marks (union.1 h) in grind (arith, nat_tests)),
+    )
+
+pub returns-clause-emptied : goal.returns-clause-emptied
+returns-clause-emptied c = λ yes. fun_ext (nothing_live c.loop-lit.marks (sym c.loop-lit.invariant.live ∙ grind (arith, nat_tests, yes)))

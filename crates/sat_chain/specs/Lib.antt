@@ -1,0 +1,10 @@
+pub mod Clause
+pub mod Text
+pub mod Resolvent
+pub mod Refutes
+pub mod Answer
+pub mod Store
+pub mod Scan
+pub mod Marks
+pub mod Kept
+pub mod Placed
