@@ -70,13 +70,15 @@ fn a_contradiction_is_derived_in_three_lines(rt: HostRuntime) -> Result<(), Fail
     Ok(())
 }
 
-const ADDED: [&[u8]; 6] = [
+const ADDED: [&[u8]; 8] = [
     b"c 1 0",
     b"c -6 0",
     b"c 1 -2 3 -4 5 -6 0",
     b"r 11 0 5 0",
     b"r 1 0 1 2 0",
     b"r 11 6 0 1 0",
+    b"r 13 2 0 -2 0",
+    b"r 10 12 0 2 4 0",
 ];
 
 const BAD: [&[u8]; 33] = [
@@ -115,27 +117,33 @@ const BAD: [&[u8]; 33] = [
     b"r 11 0 7 0",
 ];
 
-const NO_CLAUSE: [&[u8]; 4] = [
+const NO_CLAUSE: [&[u8]; 6] = [
     b"r 13 0 5 0",
     b"r 18446744073709551627 0 5 0",
     b"r 11 99999999999999999999999 0 0",
     b"r 11 11 13 0 5 0",
+    b"r 11 6 14 0 0",
+    b"r 99 11 0 0",
 ];
 
-const NO_PIVOT: [&[u8]; 4] = [
+const NO_PIVOT: [&[u8]; 6] = [
     b"r 11 11 0 5 0",
     b"r 1 2 0 0",
     b"r 11 12 0 5 6 0",
     b"r 11 1 0 5 0",
+    b"r 3 10 0 2 3 4 -6 0",
+    b"r 5 11 0 -1 -3 5 0",
 ];
 
-const NOT_RESOLVENT: [&[u8]; 6] = [
+const NOT_RESOLVENT: [&[u8]; 8] = [
     b"r 11 0 -5 0",
     b"r 11 0 0",
     b"r 1 0 2 1 0",
     b"r 11 6 0 1 5 0",
     b"r 11 6 0 -1 0",
     b"r 1 0 1 1 2 0",
+    b"r 10 12 0 4 0",
+    b"r 11 7 0 3 5 0",
 ];
 
 #[test]
