@@ -1,0 +1,13 @@
+-- A value past the limit stays past it.
+use Rattle.std.proofs.Common.{◌<◌, sym, arith}
+use Rattle.std.proofs.lemmas.Bool.{lt-leb}
+use Rattle.vlog_lex.specs.Numbers.{value_from, value_of, with_digit}
+use Rattle.std.proofs.Common.{get_or}
+use Rattle.vlog_lex.proofs.NumberLemmas.{value_past}
+use Rattle.vlog_lex.proofs.numbers.is_at_most.Goals as goal
+
+pub returns-then-value-most : goal.returns-then-value-most
+returns-then-value-most c =
+    let next : c.args.most < with_digit c.loop-rest.value (get_or c.loop-rest.rest.now 0 0) = omega arith in
+    let past : c.args.most < value_from c.loop-rest.value c.loop-rest.rest.now = value_past _ _ _ c.in-len1-up.len_at_least next in
+    sym (lt-leb (value_of c.args.digits.now) c.args.most (omega (arith, c.loop-rest.invariant.left)))

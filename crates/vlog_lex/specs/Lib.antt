@@ -1,0 +1,9 @@
+pub mod Bytes
+pub mod Longest
+pub mod Marks
+pub mod Numbers
+pub mod Words
+pub mod Comments
+pub mod Pieces
+pub mod Attributes
+pub mod Tokens
