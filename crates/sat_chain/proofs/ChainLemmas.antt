@@ -1,5 +1,5 @@
 -- Serves the loops over a chain: each number is known, each clause is one, and what is left decides the union.
-use Rattle.std.proofs.Common.{◌≡◌, ◌≢◌, ℕ, zero, suc, ◌+◌, ◌-◌, ◌<◌, ◌≤◌, Bool, true, false, ◌&&◌, nat_lt, nat_le, cond, List, [], ◌∷◌, length, get_or, drop, refl, sym, ap, ◌∙◌, Option, Some, None, arith, rules, ℤ, IsTrue, add-one, drop-cons}
+use Rattle.std.proofs.Common.{◌≡◌, ℕ, zero, suc, ◌+◌, ◌-◌, ◌<◌, ◌≤◌, Bool, true, false, ◌&&◌, List, [], ◌∷◌, length, get_or, drop, refl, sym, ap, ◌∙◌, Option, Some, None, arith, ℤ, add-one, drop-cons}
 use Rattle.std.specs.List.{list_all, All, AllByRecursion}
 use Rattle.std.specs.Option.{option_and_then}
 use Rattle.std.proofs.lemmas.List.Elements.{All-from_recursion}

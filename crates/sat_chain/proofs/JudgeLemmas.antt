@@ -1,12 +1,11 @@
 -- Serves specs/Answer.antt: the parts of an answer to a derived clause.
-use Rattle.std.proofs.Common.{◌≡◌, ◌≢◌, ℕ, zero, suc, ◌+◌, ◌-◌, ◌<◌, ◌≤◌, Bool, true, false, nat_eq, List, [], ◌∷◌, length, refl, sym, ap, ◌∙◌, subst, Option, Some, None, arith, rules, ℤ, IsTrue}
+use Rattle.std.proofs.Common.{◌≡◌, ℕ, ◌+◌, ◌-◌, Bool, true, false, nat_eq, List, [], ◌∷◌, length, refl, sym, ap, ◌∙◌, subst, Option, Some, None, arith, ℤ}
 use Rattle.std.specs.List.{list_all}
 use Rattle.std.specs.Option.{IsSomeAnd}
 use Rattle.std.proofs.lemmas.Option.{same_Some}
 use Rattle.std.proofs.lemmas.Bool.Decides.{nat_tests}
 use Rattle.sat_chain.specs.Resolvent.{Union}
 use Rattle.sat_chain.specs.Answer.{is_known, all_known, seen}
-use Rattle.sat_chain.specs.declared.fault.Seen.{Seen}
 use Rattle.sat_chain.specs.declared.fault.Seen.TheVariants.{Added, Empty}
 use Rattle.sat_chain.specs.Store.{cut, IsCut}
 use Rattle.sat_chain.proofs.StoreLemmas.{length-cut}

@@ -1,5 +1,5 @@
 -- Serves specs/Kept.antt: what a checker keeps with one clause more, and the answers that come of it.
-use Rattle.std.proofs.Common.{◌≡◌, ◌≢◌, ℕ, zero, suc, ◌+◌, ◌-◌, ◌^◌, ◌<◌, ◌≤◌, Bool, true, false, nat_lt, nat_le, cond, List, [], ◌∷◌, ◌++◌, length, map, take, drop, refl, sym, ap, ◌∙◌, subst, Option, Some, None, Result, Ok, Err, arith, rules, ℤ, pos, negsuc, neg_ℤ, IsTrue, ◌&&◌}
+use Rattle.std.proofs.Common.{◌≡◌, ℕ, zero, suc, ◌+◌, ◌-◌, ◌^◌, ◌<◌, ◌≤◌, Bool, true, false, nat_lt, nat_le, cond, List, [], ◌∷◌, ◌++◌, length, map, take, drop, refl, sym, ap, ◌∙◌, subst, Option, Some, None, Result, Ok, Err, arith, ℤ, ◌&&◌}
 use Rattle.std.specs.List.{list_all, All, AllByRecursion}
 use Rattle.std.proofs.lemmas.List.Elements.{All-from_recursion}
 use Rattle.std.proofs.lemmas.Grind.{common_steps}
@@ -7,19 +7,19 @@ use Rattle.sat_chain.proofs.ChainLemmas.{below}
 use Rattle.std.specs.Option.{IsSomeAnd, option_map}
 use Rattle.std.proofs.lemmas.Option.{same_Some, cond_some}
 use Rattle.std.proofs.lemmas.Bool.Decides.{nat_tests}
-use Rattle.sat_chain.specs.Clause.{variable, is_positive, ascends_above, IsClause, AreClauses, Meets, MeetsAll}
+use Rattle.sat_chain.specs.Clause.{variable, ascends_above, IsClause, AreClauses, Meets, MeetsAll}
 use Rattle.sat_chain.specs.Text.{Line, Given, Derived, signed, is_plain, magnitude, number_of, variable_up_to, literal_of, with_literal, literals_of, ended, is_end, given_line, derived_line}
 use Rattle.sat_chain.specs.Resolvent.{Union, union_of}
 use Rattle.sat_chain.specs.Refutes.{Known, Follows, HasNoModel}
 use Rattle.sat_chain.specs.Scan.{capped}
-use Rattle.sat_chain.specs.Answer.{is_known, all_known, seen, IsResult, DerivedAnswer, AnswerTo, with_line, After, Answers}
+use Rattle.sat_chain.specs.Answer.{is_known, all_known, seen, IsResult, DerivedAnswer, with_line, Answers}
 use Rattle.sat_chain.specs.Store.{cut, IsCut, marked}
 use Rattle.sat_chain.specs.declared.fault.ChainFault.{ChainFault}
 use Rattle.sat_chain.specs.declared.fault.ChainFault.TheVariants.{BadLine, NoClause, NoPivot, NotResolvent}
 use Rattle.sat_chain.specs.declared.fault.Seen.{Seen}
 use Rattle.sat_chain.specs.declared.fault.Seen.TheVariants.{Added, Empty}
 use Rattle.sat_chain.proofs.StoreLemmas.{length-cut, cut_push, is_cut_push, marked_push}
-use Rattle.sat_chain.proofs.SoundLemmas.{by_push, follows_given, follows_derived, derived_met, no_model}
+use Rattle.sat_chain.proofs.SoundLemmas.{by_push, follows_given, follows_derived, no_model}
 
 signed_variable : (b : Bool) (n : ℕ) → variable (signed b n) ≡ n
 signed_variable true n = refl

@@ -1,6 +1,5 @@
 -- Serves specs/Text.antt: the line of a text by its first word.
-use Rattle.std.proofs.Common.{◌≡◌, ℕ, Bool, true, false, List, [], ◌∷◌, refl, sym, ap, ◌∙◌, Option, Some, None, arith, rules}
-use Rattle.std.proofs.lemmas.Bool.Decides.{nat_tests}
+use Rattle.std.proofs.Common.{◌≡◌, ℕ, true, false, List, ◌∷◌, refl, None}
 use Rattle.sat_chain.specs.Text.{words, is_byte, line_in, line_of, given_line, derived_line, literals_of, chain_of}
 
 pub line_given : (v : ℕ) (text w : List ℕ) (ws : List (List ℕ)) → words text ≡ w ∷ ws → is_byte 99 w ≡ true → line_of v text ≡ given_line (literals_of v ws)

@@ -1,5 +1,5 @@
 -- Serves specs/Scan.antt: one word more of a list of numbers.
-use Rattle.std.proofs.Common.{◌≡◌, ℕ, ◌+◌, ◌<◌, ◌≤◌, Bool, true, false, nat_eq, List, [], ◌∷◌, ◌++◌, length, map, refl, sym, ap, ◌∙◌, Option, Some, None, is_some, not, MatchOption, OnSome, cond, Bor, arith, rules, append_assoc, ℤ}
+use Rattle.std.proofs.Common.{◌≡◌, ℕ, ◌+◌, ◌<◌, ◌≤◌, Bool, true, false, nat_eq, List, [], ◌∷◌, ◌++◌, length, map, refl, ap, Option, Some, None, is_some, not, MatchOption, OnSome, cond, Bor, arith, append_assoc, ℤ}
 use Rattle.std.proofs.lemmas.List.{append-nil}
 use Rattle.std.specs.Option.{option_map, option_copied}
 use Rattle.std.proofs.lemmas.Option.{same_Some}

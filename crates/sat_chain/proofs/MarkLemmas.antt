@@ -1,11 +1,11 @@
 -- Serves specs/Marks.antt: what a write does to a union, and what a clause of ascending variables does.
-use Rattle.std.proofs.Common.{◌≡◌, ◌≢◌, ℕ, zero, suc, ◌+◌, ◌<◌, ◌≤◌, Bool, true, false, not, nat_eq, cond, List, [], ◌∷◌, length, get_or, set, drop, refl, sym, ap, ◌∙◌, Option, Some, None, arith, rules, ℤ, eq-eqb, add-one, drop-cons, get_or-set_same, get_or-set_other, length-set}
+use Rattle.std.proofs.Common.{◌≡◌, ◌≢◌, ℕ, zero, suc, ◌+◌, ◌<◌, ◌≤◌, Bool, true, false, nat_eq, cond, List, [], ◌∷◌, length, get_or, set, drop, refl, ap, ◌∙◌, Option, Some, None, arith, ℤ, add-one, drop-cons, get_or-set_same, get_or-set_other, length-set}
 use Rattle.std.proofs.lemmas.Bool.Decides.{nat_tests}
 use Rattle.std.proofs.lemmas.Grind.{common_steps}
 use mathlib.Core.Path.{fun_ext}
 use Rattle.sat_chain.specs.Clause.{variable, is_positive, ascends_above}
-use Rattle.sat_chain.specs.Resolvent.{Union, sign_in, differs, is_opposite, opposites, either, resolved, resolved_at, resolvent}
-use Rattle.sat_chain.specs.Marks.{at, set_at, nothing, one_if, live_in, joined, put, merged, turned}
+use Rattle.sat_chain.specs.Resolvent.{Union, is_opposite}
+use Rattle.sat_chain.specs.Marks.{at, set_at, one_if, live_in, put, merged, turned}
 
 at_set_here : (ms : List (Option Bool)) (v : ℕ) (s : Option Bool) (x : ℕ) → v < length ms → (b : Bool) → nat_eq x v ≡ b → get_or (set ms v s) x None ≡ cond b s (get_or ms x None)
 at_set_here ms v s x h true e = let is : x ≡ v = grind (arith, nat_tests) in ap (λ y. get_or (set ms v s) y None) is ∙ get_or-set_same ms v s None h

@@ -1,5 +1,5 @@
 -- Serves the first state of a checker.
-use Rattle.std.proofs.Common.{◌≡◌, ℕ, zero, suc, Bool, List, [], ◌∷◌, length, get_or, refl, sym, ap, ◌∙◌, Option, Some, None, arith, rules, ℤ, ◌++◌}
+use Rattle.std.proofs.Common.{◌≡◌, ℕ, zero, suc, Bool, List, [], ◌∷◌, length, refl, ap, ◌∙◌, Option, None, ℤ, ◌++◌}
 use mathlib.Core.Path.{fun_ext}
 use Rattle.sat_chain.specs.Store.{cut, cut_from, IsCut, AscendTo, marked}
 use Rattle.sat_chain.specs.Marks.{at, nothing}

@@ -1,11 +1,12 @@
 -- Serves specs/Placed.antt: the clause at a place, and one clause more.
-use Rattle.std.proofs.Common.{◌≡◌, ℕ, zero, suc, ◌+◌, ◌-◌, ◌<◌, ◌≤◌, List, [], ◌∷◌, ◌++◌, length, map, take, drop, refl, sym, ap, ◌∙◌, Option, Some, None, arith, rules, ℤ, length-append}
+use Rattle.std.proofs.Common.{◌≡◌, ℕ, zero, suc, ◌+◌, ◌≤◌, List, [], ◌∷◌, ◌++◌, length, take, drop, refl, sym, ap, ◌∙◌, Some, arith, ℤ, length-append}
 use Rattle.std.specs.Prelude.{slice_range, slice_get}
 use Rattle.std.specs.Option.{option_map}
 use Rattle.std.specs.List.{AllByRecursion}
 use Rattle.std.proofs.lemmas.Option.{same_Some, slice_get-map}
-use Rattle.std.proofs.lemmas.Grind.{common_steps}
+use Rattle.sat_chain.specs.Clause.{IsClause, AreClauses}
 use Rattle.sat_chain.specs.Placed.{pieces}
+use Rattle.sat_chain.proofs.SoundLemmas.{by_push}
 use Rattle.sat_chain.specs.declared.clauses.Place.{Place}
 use Rattle.sat_chain.proofs.StoreLemmas.{range_front, range_back, parts_range}
 
@@ -50,3 +51,10 @@ placed_push lits more lits' ps ps' p h l-is s-is e-is p-is =
 pub length-pieces : (lits : List ℤ) (ps : List Place) → length (pieces lits ps) ≡ length ps
 length-pieces lits [] = refl
 length-pieces lits (p ∷ ps) = omega (arith, length-pieces lits ps)
+
+-- the same literals are the same clauses
+pub placed_kept : (v : ℕ) (lits lits' : List ℤ) (ps : List Place) → lits' ≡ lits → AllByRecursion (Lies (length lits)) ps → AreClauses v (pieces lits ps) → AllByRecursion (Lies (length lits')) ps × AreClauses v (pieces lits' ps)
+placed_kept v lits lits' ps is h k = rw is (h, k)
+
+pub placed_more : (v : ℕ) (cs cs' : List (List ℤ)) (c : List ℤ) → cs' ≡ cs ++ c ∷ [] → AreClauses v cs → IsClause v c → AreClauses v cs'
+placed_more v cs cs' c is h k = rw is (by_push (IsClause v) cs c h k)

@@ -1,15 +1,15 @@
 -- Serves specs/Refutes.antt: what meets the given clauses meets each derived one.
-use Rattle.std.proofs.Common.{◌≡◌, ◌≢◌, ℕ, zero, suc, ◌+◌, ◌-◌, ◌<◌, ◌≤◌, ◌⊎◌, inl, inr, Bool, true, false, not, ◌&&◌, nat_eq, nat_lt, cond, List, [], ◌∷◌, ◌++◌, length, get_or, refl, sym, ap, ◌∙◌, subst, Option, Some, None, arith, rules, ℤ, IsTrue, eq-eqb}
+use Rattle.std.proofs.Common.{◌≡◌, ℕ, ◌-◌, ◌<◌, ◌≤◌, ◌⊎◌, inl, inr, Bool, true, false, nat_eq, cond, List, [], ◌∷◌, ◌++◌, length, refl, sym, ap, ◌∙◌, Option, Some, None, arith, ℤ, eq-eqb}
 use Rattle.std.specs.List.{AllByRecursion}
 use Rattle.std.specs.Option.{option_and_then, IsSomeAnd}
 use Rattle.std.proofs.lemmas.List.Elements.{All-from_recursion}
 use Rattle.std.proofs.lemmas.Bool.Decides.{nat_tests}
 use Rattle.std.proofs.lemmas.Option.{same_Some}
-use Rattle.sat_chain.specs.Clause.{variable, is_positive, ascends_above, IsClause, AreClauses, Meets, MeetsAll}
-use Rattle.sat_chain.specs.Resolvent.{Union, sign_in, differs, is_opposite, opposites, either, resolved, resolved_at, resolvent, clause, reached, union_of}
+use Rattle.sat_chain.specs.Clause.{variable, is_positive, ascends_above, AreClauses, Meets, MeetsAll}
+use Rattle.sat_chain.specs.Resolvent.{Union, sign_in, differs, opposites, either, resolved, resolved_at, resolvent, clause, reached, union_of}
 use Rattle.sat_chain.specs.Refutes.{Follows, HasNoModel}
 use Rattle.sat_chain.specs.Answer.{all_known, IsResult}
-use Rattle.sat_chain.proofs.StepLemmas.{among, among_opposites, opposite_at, absent, Above, above}
+use Rattle.sat_chain.proofs.StepLemmas.{among, among_opposites, opposite_at, absent, above}
 use Rattle.sat_chain.proofs.ChainLemmas.{known_within, known_others, clause_is}
 
 -- an assignment makes a variable's sign in the union true

@@ -1,9 +1,9 @@
 -- Serves specs/Resolvent.antt: merging a clause is resolution with it, where exactly one variable cancels.
-use Rattle.std.proofs.Common.{◌≡◌, ◌≢◌, ℕ, zero, suc, ◌+◌, ◌<◌, ◌≤◌, Bool, true, false, not, ◌&&◌, nat_eq, nat_lt, cond, List, [], ◌∷◌, length, refl, sym, ap, ◌∙◌, Option, Some, None, arith, rules, ℤ, eq-eqb, ◌↔◌, get_or, drop, add-one, drop-cons}
+use Rattle.std.proofs.Common.{◌≡◌, ℕ, ◌+◌, ◌<◌, ◌≤◌, Bool, true, false, ◌&&◌, nat_eq, nat_lt, cond, List, [], ◌∷◌, length, refl, sym, ap, ◌∙◌, Option, Some, None, arith, ℤ, eq-eqb, ◌↔◌, get_or, drop, add-one, drop-cons}
 use Rattle.std.proofs.lemmas.Bool.Decides.{nat_tests}
 use mathlib.Core.Path.{fun_ext}
 use Rattle.sat_chain.specs.Clause.{variable, is_positive, ascends_above}
-use Rattle.sat_chain.specs.Resolvent.{Union, sign_in, differs, is_opposite, opposites, either, resolved, resolved_at, resolvent}
+use Rattle.sat_chain.specs.Resolvent.{Union, sign_in, is_opposite, opposites, either, resolved_at, resolvent}
 use Rattle.sat_chain.proofs.MarkLemmas.{AscendFrom}
 use Rattle.sat_chain.specs.Marks.{set_at, nothing, joined, put, merged, turned}
 

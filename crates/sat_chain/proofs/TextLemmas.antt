@@ -1,10 +1,10 @@
 -- Serves specs/Text.antt: words by places, and numbers by their digits.
-use Rattle.std.proofs.Common.{◌≡◌, ◌≢◌, ℕ, zero, suc, ◌+◌, ◌-◌, ◌*◌, ◌^◌, ◌<◌, ◌≤◌, min, Bool, true, false, ◌&&◌, nat_le, nat_eq, cond, List, [], ◌∷◌, length, get_or, take, drop, refl, sym, ap, ◌∙◌, Option, Some, None, arith, rules, eq-eqb, add-one, drop-cons}
+use Rattle.std.proofs.Common.{◌≡◌, ℕ, zero, suc, ◌+◌, ◌-◌, ◌*◌, ◌^◌, ◌<◌, ◌≤◌, min, true, false, nat_eq, cond, List, [], ◌∷◌, length, get_or, take, drop, refl, sym, ap, ◌∙◌, Option, Some, None, arith, eq-eqb, add-one, drop-cons}
 use Rattle.std.specs.List.{list_all}
 use Rattle.std.proofs.lemmas.Bool.Decides.{nat_tests}
 use Rattle.std.proofs.lemmas.Grind.{common_steps}
-use Rattle.sat_chain.specs.Text.{words, lengthen, is_digit, value_after, number_of}
-use Rattle.sat_chain.specs.Scan.{words_after, capped, digits_of}
+use Rattle.sat_chain.specs.Text.{words, is_digit, value_after}
+use Rattle.sat_chain.specs.Scan.{capped, digits_of}
 
 words_front_at : (text : List ℕ) (i : ℕ) → i < length text → ((k : ℕ) → k < i → get_or text k 0 ≡ 32 → ⊥) → get_or text i 0 ≡ 32
     → words text ≡ take i text ∷ words (drop (suc i) text)

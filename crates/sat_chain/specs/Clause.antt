@@ -2,7 +2,7 @@
 --   variable, is_positive      the parts of a literal
 --   ascends_above, IsClause    what is stored: literals of variables from 1, each above the one before
 --   Meets, MeetsAll            an assignment makes a clause true, or each clause of a list
-use Rattle.std.specs.Prelude.{◌≡◌, ℕ, ◌<◌, ◌≤◌, ◌⊎◌, Bool, true, false, ◌&&◌, nat_lt, IsTrue, List, [], ◌∷◌, ℤ, pos, negsuc, unsigned_abs}
+use Rattle.std.specs.Prelude.{◌≡◌, ℕ, ◌≤◌, ◌⊎◌, Bool, true, false, ◌&&◌, nat_lt, IsTrue, List, [], ◌∷◌, ℤ, pos, negsuc, unsigned_abs}
 use Rattle.std.specs.List.{AllByRecursion}
 
 abbrev pub variable : ℤ → ℕ

@@ -1,5 +1,5 @@
 -- What a checker keeps, and what is true of it.
-use Rattle.std.specs.Prelude.{◌≡◌, ℕ, ◌+◌, ◌*◌, ◌<◌, ◌≤◌, ◌^◌, length, vec_len, vec_capacity}
+use Rattle.std.specs.Prelude.{◌≡◌, ◌+◌, ◌*◌, ◌<◌, ◌≤◌, ◌^◌, length, vec_len, vec_capacity}
 use Rattle.sat_chain.specs.Clause.{AreClauses}
 use Rattle.sat_chain.specs.Refutes.{Known, Follows}
 use Rattle.sat_chain.specs.Store.{cut, IsCut, marked}

@@ -2,7 +2,7 @@
 --   Union, sign_in                the signs of a clause
 --   opposites, IsPivot, resolved  one step: exactly one variable of opposite sign, which goes
 --   reached, union_of             the steps of a derivation, by the numbers of its clauses
-use Rattle.std.specs.Prelude.{◌≡◌, ℕ, ◌-◌, ◌≤◌, ◌<◌, Bool, true, false, not, ◌==◌, if◌then◌else◌, List, [], ◌∷◌, slice_index_or, ℤ, Option, Some, None}
+use Rattle.std.specs.Prelude.{◌≡◌, ℕ, ◌-◌, Bool, false, not, ◌==◌, if◌then◌else◌, List, [], ◌∷◌, slice_index_or, ℤ, Option, Some, None}
 use Rattle.sat_chain.specs.Clause.{variable, is_positive}
 use Rattle.std.specs.Option.{option_and_then}
 

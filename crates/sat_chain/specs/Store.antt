@@ -1,7 +1,7 @@
 -- How clauses are stored: all literals in one list, and where each clause begins and ends in it.
 --   cut, marked          the clauses, and those of them that are marked
 --   IsCut                the places ascend up to the end of the literals
-use Rattle.std.specs.Prelude.{◌≡◌, ℕ, ◌≤◌, Bool, true, false, List, [], ◌∷◌, length, slice_range, ℤ}
+use Rattle.std.specs.Prelude.{◌≡◌, ℕ, ◌≤◌, Bool, true, false, List, [], ◌∷◌, slice_range, ℤ}
 
 -- the pieces from a place on, each up to the next place
 unfoldable pub cut_from : ℕ → List ℕ → List ℤ → List (List ℤ)

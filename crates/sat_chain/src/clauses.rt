@@ -1,6 +1,6 @@
 //! A list of clauses, with an id for each.
 ghost use Rattle.std.specs.Prelude.{◌≡◌, ◌<◌, ◌≤◌, ◌^◌, ◌++◌, ◌∷◌, [], length, slice_get, Some, MatchOption, MatchResult};
-ghost use Rattle.sat_chain.specs.Clause.{IsClause};
+ghost use Rattle.sat_chain.specs.Clause.{IsClause, AreClauses};
 
 use crate::fault::AddFault;
 use rdc_ids::{Id, IdVec};
@@ -30,11 +30,11 @@ impl Model for Clauses {
 
     ghost Value = { Problem };
 
-    ghost use Rattle.sat_chain.specs.Placed.{problem, ArePlaced};
+    ghost use Rattle.sat_chain.specs.Placed.{problem, IsPlaced};
 
     ghost view = { problem };
 
-    ghost invariant = { ArePlaced };
+    ghost invariant = { IsPlaced };
 }
 
 impl Clauses {
@@ -59,7 +59,8 @@ impl Clauses {
 
     /// The number of clauses.
     pub fn len(&self) -> u64
-        ensures { result ≡ length self.now.clauses }
+        ensures value { result ≡ length self.now.clauses }
+        ensures lawful { AreClauses self.now.vars self.now.clauses }
     {
         self.places.len()
     }

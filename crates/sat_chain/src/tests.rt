@@ -195,3 +195,20 @@ fn another_result_is_told(rt: HostRuntime) -> Result<(), Fail> {
     all_answer(&rt, rt.alloc(), &NOT_RESOLVENT, ChainFault::NotResolvent)?;
     Ok(())
 }
+
+#[test]
+fn a_clause_is_found_by_its_id(rt: HostRuntime) -> Result<(), Fail> {
+    let mut clauses = Clauses::new(rt.alloc(), 3);
+    let first = clauses.add(&[1, -2])?;
+    let second = clauses.add(&[3])?;
+    assert_eq!(rt; first.number(), 0);
+    assert_eq!(rt; second.number(), 1);
+    assert_eq!(rt; clauses.vars(), 3);
+    assert_eq!(rt; clauses.len(), 2);
+    assert!(rt; clauses.try_id(2).is_none());
+    let id = clauses.try_id(1).ok_or("1")?;
+    assert_eq!(rt; clauses.lits(id), [3].as_slice());
+    let id = clauses.try_id(0).ok_or("0")?;
+    assert_eq!(rt; clauses.lits(id), [1, -2].as_slice());
+    Ok(())
+}

@@ -1,5 +1,5 @@
 -- All marks stay empty.
-use Rattle.std.proofs.Common.{arith, rules, sym, ap, ◌∙◌}
+use Rattle.std.proofs.Common.{arith, ◌∙◌}
 use Rattle.sat_chain.proofs.NewLemmas.{none_push_at, none_new, nothing_is}
 use Rattle.sat_chain.proofs.checker.empty_marks.Goals as goal
 

@@ -1,5 +1,5 @@
 -- No clause is there, and all the memory is.
-use Rattle.std.proofs.Common.{◌≡◌, ◌+◌, ◌*◌, ◌-◌, ◌<◌, ◌≤◌, ◌++◌, ◌∷◌, [], arith, rules, sym, ap, ◌∙◌, length, vec_len, refl}
+use Rattle.std.proofs.Common.{◌++◌, ◌∷◌, [], arith, sym, ap, ◌∙◌, refl}
 use Rattle.sat_chain.proofs.NewLemmas.{holds_new}
 use Rattle.sat_chain.proofs.checker.made.Goals as goal
 

@@ -1,7 +1,6 @@
 -- Each answer by what was tested.
-use Rattle.std.proofs.Common.{◌≡◌, ◌+◌, ◌-◌, ◌<◌, ◌≤◌, ℕ, arith, rules, sym, ap, ◌∙◌, length, true, false}
+use Rattle.std.proofs.Common.{◌≡◌, arith, sym, ◌∙◌, length, false}
 use Rattle.sat_chain.specs.Answer.{all_known, IsResult}
-use Rattle.sat_chain.specs.Resolvent.{union_of}
 use Rattle.sat_chain.specs.Store.{cut}
 use Rattle.sat_chain.specs.Marks.{at}
 use Rattle.sat_chain.proofs.StoreLemmas.{length-cut}

@@ -1,11 +1,11 @@
 -- What is left decides what was read.
-use Rattle.std.proofs.Common.{◌≡◌, ◌+◌, ◌*◌, ◌≤◌, ◌++◌, ◌∷◌, [], List, ℕ, ℤ, Bool, true, false, Some, None, arith, rules, sym, ap, ◌∙◌, length, take, vec_len, Option, to_z, of_z, w32, SFits, MatchOption}
+use Rattle.std.proofs.Common.{◌≡◌, ◌+◌, ◌≤◌, ◌++◌, ◌∷◌, [], arith, rules, sym, ap, ◌∙◌, take, vec_len, w32, SFits}
 use Rattle.std.proofs.lemmas.Int.{to_z-of_z}
 use Rattle.std.proofs.lemmas.Grind.{common_steps}
 use Rattle.std.specs.Option.{option_copied}
-use Rattle.sat_chain.specs.Text.{words, literals_of, literal_of, is_end}
+use Rattle.sat_chain.specs.Text.{literals_of}
 use Rattle.sat_chain.specs.Scan.{words_after, prefixed, left_of}
-use Rattle.sat_chain.proofs.ListLemmas.{literals_more, literals_stop, literals_end_at, literals_none, words_at, words_over, left_less, left_end, spelled_some}
+use Rattle.sat_chain.proofs.ListLemmas.{literals_more, literals_stop, literals_end_at, literals_none, words_at, words_over, left_less, spelled_some}
 use Rattle.sat_chain.proofs.lists.append_literals.Goals as goal
 
 pub returns-then-is_one-clause-value : goal.returns-then-is_one-clause-value

@@ -1,9 +1,9 @@
 -- What is left decides what was read.
-use Rattle.std.proofs.Common.{◌≡◌, ◌+◌, ◌*◌, ◌≤◌, ◌++◌, ◌∷◌, [], List, ℕ, Bool, true, false, Some, None, arith, rules, sym, ap, ◌∙◌, length, vec_len, Option, MatchOption}
+use Rattle.std.proofs.Common.{◌≡◌, ◌+◌, ◌≤◌, ◌∷◌, arith, sym, ap, ◌∙◌}
 use Rattle.std.specs.Option.{option_copied}
-use Rattle.sat_chain.specs.Text.{words, chain_of, number_of, is_end}
+use Rattle.sat_chain.specs.Text.{chain_of}
 use Rattle.sat_chain.specs.Scan.{words_after, numbers_behind, left_of}
-use Rattle.sat_chain.proofs.ListLemmas.{chain_more, chain_stop, chain_end, chain_none, words_at, words_over, left_less, left_end, spelled_some}
+use Rattle.sat_chain.proofs.ListLemmas.{chain_more, chain_stop, chain_end, chain_none, words_at, words_over, left_less, spelled_some}
 use Rattle.sat_chain.proofs.lists.read_chain.Goals as goal
 
 pub returns-then-is_one-clause-value : goal.returns-then-is_one-clause-value

@@ -1,12 +1,11 @@
 -- The literals that are left are the union that is left.
-use Rattle.std.proofs.Common.{◌≡◌, ◌+◌, ◌<◌, ◌↔◌, ℕ, ℤ, [], pos, arith, rules, sym, ap, ◌∙◌, length, get_or, drop, None, nat_eq, IsTrue, true}
+use Rattle.std.proofs.Common.{◌≡◌, [], pos, arith, sym, ◌∙◌, drop}
 use Rattle.std.proofs.lemmas.Bool.Decides.{nat_tests}
 use Rattle.std.proofs.lemmas.Grind.{common_steps}
 use mathlib.Core.Path.{fun_ext}
-use Rattle.sat_chain.specs.Resolvent.{sign_in}
-use Rattle.sat_chain.specs.Marks.{at, live_in, nothing}
+use Rattle.sat_chain.specs.Marks.{at}
 use Rattle.sat_chain.proofs.ChainLemmas.{live_nothing, nothing_live}
-use Rattle.sat_chain.proofs.StepLemmas.{union_more, ascend_rest, Is}
+use Rattle.sat_chain.proofs.StepLemmas.{union_more, ascend_rest}
 use Rattle.sat_chain.proofs.marks.is_union.Goals as goal
 
 pub loop-lit-preserved : goal.loop-lit-preserved

@@ -1,6 +1,6 @@
 -- The literals that are left decide the union.
-use Rattle.std.proofs.Common.{◌≡◌, ◌+◌, ◌<◌, ◌≤◌, length, pos, get_or, drop, arith, rules, sym, ap, ◌∙◌}
-use Rattle.sat_chain.specs.Marks.{at, put, merged, turned}
+use Rattle.std.proofs.Common.{◌+◌, pos, drop, arith, sym, ap, ◌∙◌}
+use Rattle.sat_chain.specs.Marks.{at, merged, turned}
 use Rattle.sat_chain.proofs.MarkLemmas.{merged_more, turned_more, merged_done, turned_done}
 use Rattle.sat_chain.proofs.marks.merge.Goals as goal
 

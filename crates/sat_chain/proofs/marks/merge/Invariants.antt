@@ -1,4 +1,4 @@
-use Rattle.std.proofs.Common.{◌≡◌, ◌+◌, ◌≤◌, drop, length}
+use Rattle.std.proofs.Common.{◌≡◌, ◌+◌, ◌≤◌, drop}
 use Rattle.sat_chain.specs.Marks.{at, live_in, merged, turned}
 use Rattle.sat_chain.proofs.marks.merge.Given as goal
 

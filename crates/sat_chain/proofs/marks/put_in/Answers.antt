@@ -1,6 +1,5 @@
 -- The count follows the marks.
-use Rattle.std.proofs.Common.{◌≡◌, ◌+◌, ◌<◌, ◌≤◌, length, None, Some, get_or, set, arith, rules, sym, ap, ◌∙◌}
-use Rattle.std.proofs.lemmas.Grind.{common_steps}
+use Rattle.std.proofs.Common.{◌≡◌, ◌+◌, ◌≤◌, length, None, Some, set, arith}
 use Rattle.sat_chain.specs.Marks.{live_in}
 use Rattle.sat_chain.proofs.MarkLemmas.{live_more, live_less, live_below}
 use Rattle.sat_chain.proofs.marks.put_in.Goals as goal

@@ -1,5 +1,5 @@
 -- The places of a clause lie in the literals.
-use Rattle.std.proofs.Common.{◌≡◌, ◌+◌, ◌*◌, ◌-◌, ◌<◌, ◌≤◌, arith, rules, sym, ap, ◌∙◌, length, get_or, drop, take}
+use Rattle.std.proofs.Common.{◌-◌, arith, sym, ap, ◌∙◌, length, get_or, drop}
 use Rattle.sat_chain.proofs.StoreLemmas.{cut_within, cut_at, parts_range}
 use Rattle.sat_chain.proofs.resolution.clause_at.Goals as goal
 

@@ -1,5 +1,5 @@
 -- The clauses that are left decide the union.
-use Rattle.std.proofs.Common.{◌≡◌, ◌+◌, ◌-◌, ◌<◌, ◌≤◌, arith, rules, sym, ap, ◌∙◌, length, get_or, drop, None, Some}
+use Rattle.std.proofs.Common.{arith, sym, ◌∙◌, length}
 use Rattle.sat_chain.specs.Store.{cut}
 use Rattle.sat_chain.specs.Marks.{at}
 use Rattle.sat_chain.proofs.StoreLemmas.{length-cut}

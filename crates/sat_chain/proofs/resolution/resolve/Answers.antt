@@ -1,5 +1,5 @@
 -- Merging the clause is the step.
-use Rattle.std.proofs.Common.{◌≡◌, ◌+◌, ◌-◌, ◌≤◌, arith, rules, sym, ap, ◌∙◌, length, true}
+use Rattle.std.proofs.Common.{◌≡◌, ◌+◌, ◌-◌, arith, length}
 use Rattle.sat_chain.specs.Clause.{IsClause}
 use Rattle.sat_chain.specs.Resolvent.{clause}
 use Rattle.sat_chain.specs.Store.{cut}

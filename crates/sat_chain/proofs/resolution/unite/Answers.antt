@@ -1,12 +1,11 @@
 -- The first clause is merged into nothing, and the others follow.
-use Rattle.std.proofs.Common.{◌≡◌, ◌+◌, ◌-◌, ◌<◌, ◌≤◌, arith, rules, sym, ap, ◌∙◌, length, get_or, drop, None, Some, true}
+use Rattle.std.proofs.Common.{◌-◌, arith, sym, ap, ◌∙◌, length, get_or}
 use Rattle.sat_chain.specs.Clause.{IsClause}
 use Rattle.sat_chain.specs.Resolvent.{clause, reached}
 use Rattle.sat_chain.specs.Store.{cut}
-use Rattle.sat_chain.specs.Answer.{all_known}
 use Rattle.sat_chain.specs.Marks.{at}
 use Rattle.sat_chain.proofs.StoreLemmas.{length-cut}
-use Rattle.sat_chain.proofs.ChainLemmas.{known_within, known_others, union_first, clause_is, clause_below, live_nothing}
+use Rattle.sat_chain.proofs.ChainLemmas.{known_within, union_first, clause_is, live_nothing}
 use Rattle.sat_chain.proofs.resolution.unite.Goals as goal
 
 pub clause_at-requires-clause-to : goal.clause_at-requires-clause-to

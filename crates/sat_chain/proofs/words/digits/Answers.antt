@@ -1,5 +1,5 @@
 -- The digits that are left decide the number.
-use Rattle.std.proofs.Common.{◌≡◌, ◌+◌, ◌-◌, ◌*◌, ◌^◌, min, arith, rules, drop, ap, ◌∙◌, get_or}
+use Rattle.std.proofs.Common.{◌≡◌, ◌+◌, ◌-◌, ◌*◌, ◌^◌, min, arith, drop, ap, ◌∙◌, get_or}
 use Rattle.sat_chain.proofs.TextLemmas.{digits_from, digits_step, digits_done}
 use Rattle.sat_chain.proofs.words.digits.Goals as goal
 

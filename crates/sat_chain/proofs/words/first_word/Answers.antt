@@ -1,5 +1,5 @@
 -- The first space ends the first word.
-use Rattle.std.proofs.Common.{arith, rules, sym, ◌∙◌}
+use Rattle.std.proofs.Common.{arith}
 use Rattle.sat_chain.proofs.TextLemmas.{words_front, words_whole}
 use Rattle.sat_chain.proofs.words.first_word.Goals as goal
 

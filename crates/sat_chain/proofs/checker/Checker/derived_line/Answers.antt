@@ -1,14 +1,14 @@
 -- A clause more, which is derived.
-use Rattle.std.proofs.Common.{◌≡◌, ℕ, ◌+◌, ◌*◌, ◌-◌, ◌^◌, ◌<◌, ◌≤◌, ◌++◌, ◌∷◌, [], List, arith, rules, sym, ap, ◌∙◌, subst, length, take, drop, vec_len, true, Some, Ok, Err, refl}
+use Rattle.std.proofs.Common.{◌≡◌, ℕ, ◌^◌, ◌<◌, List, arith, sym, ap, ◌∙◌, subst, length, take, drop, vec_len, Ok, Err, refl}
 use Rattle.std.specs.Option.{option_copied}
 use Rattle.std.specs.Vec.{with_items}
 use Rattle.std.proofs.lemmas.List.{with_items_is}
-use Rattle.sat_chain.specs.Text.{Derived, chain_of}
+use Rattle.sat_chain.specs.Text.{chain_of}
 use Rattle.sat_chain.specs.Scan.{words_after}
-use Rattle.sat_chain.specs.Store.{cut, marked}
+use Rattle.sat_chain.specs.Store.{cut}
 use Rattle.sat_chain.specs.Marks.{at}
 use Rattle.sat_chain.proofs.SoundLemmas.{derived_met}
-use Rattle.sat_chain.proofs.KeptLemmas.{Holds, More, more_derived, derived_within, within_marks, take_front, drop_front, judged, passes_clause, refuted, small_cut, answers_bad, answers_fault, answers_derived, known_derived}
+use Rattle.sat_chain.proofs.KeptLemmas.{Holds, more_derived, derived_within, within_marks, take_front, drop_front, judged, passes_clause, refuted, small_cut, answers_fault, answers_derived, known_derived}
 use Rattle.sat_chain.proofs.checker.Checker.derived_line.Goals as goal
 
 pub invariant_of-self : goal.invariant_of-self

@@ -1,10 +1,8 @@
 -- A clause more, which is given.
-use Rattle.std.proofs.Common.{◌≡◌, ◌+◌, ◌*◌, ◌-◌, ◌<◌, ◌≤◌, ◌++◌, ◌∷◌, [], arith, rules, sym, ap, ◌∙◌, length, vec_len, true, Some, refl}
+use Rattle.std.proofs.Common.{arith, sym, ap, ◌∙◌, length, refl}
 use Rattle.std.specs.Option.{option_copied}
-use Rattle.sat_chain.specs.Text.{Given}
 use Rattle.sat_chain.specs.Scan.{words_after}
-use Rattle.sat_chain.specs.Store.{cut, marked}
-use Rattle.sat_chain.proofs.KeptLemmas.{Holds, More, more_given, given_clause, answers_bad, answers_given, known_given}
+use Rattle.sat_chain.proofs.KeptLemmas.{Holds, more_given, given_clause, answers_given, known_given}
 use Rattle.sat_chain.proofs.checker.Checker.given_line.Goals as goal
 
 pub invariant_of-self : goal.invariant_of-self

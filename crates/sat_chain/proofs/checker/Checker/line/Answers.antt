@@ -1,9 +1,7 @@
 -- The first word decides which line it is.
-use Rattle.std.proofs.Common.{◌≡◌, ◌∷◌, ◌+◌, [], arith, rules, sym, ap, ◌∙◌, length, true, false, None, Some, subst, refl}
+use Rattle.std.proofs.Common.{sym, ◌∙◌, refl}
 use Rattle.std.specs.Option.{option_copied}
-use Rattle.sat_chain.specs.Text.{words, line_in, given_line, derived_line, literals_of, chain_of}
 use Rattle.sat_chain.specs.Scan.{words_after}
-use Rattle.sat_chain.specs.Answer.{AnswerTo, After}
 use Rattle.sat_chain.proofs.LineLemmas.{line_given, line_derived, line_none}
 use Rattle.sat_chain.proofs.checker.Checker.line.Goals as goal
 
