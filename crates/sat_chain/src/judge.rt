@@ -7,8 +7,8 @@ ghost use Rattle.sat_chain.specs.Store.{cut, IsCut};
 ghost use Rattle.sat_chain.specs.Marks.{at, nothing};
 
 use crate::fault::{ChainFault, Seen};
-use crate::marks::{ascends, empty, is_union};
-use crate::resolution::{knows_all, unite};
+use crate::marks::{ascends, left_by};
+use crate::resolution::{forget_all, knows_all, unite};
 
 /// Whether the literals are the resolvent of the cited clauses. The marks are empty before and after it.
 pub fn judge(
@@ -31,16 +31,19 @@ pub fn judge(
     if !knows_all(count, chain) {
         return Err(ChainFault::NoClause);
     }
-    let Some(live) = unite(marks, lits, bounds, chain) else {
-        empty(marks);
-        return Err(ChainFault::NoPivot);
+    let live = match unite(marks, lits, bounds, chain) {
+        Ok(live) => live,
+        Err(live) => {
+            forget_all(marks, live, lits, bounds, chain);
+            return Err(ChainFault::NoPivot);
+        }
     };
     if !ascends(literals) {
-        empty(marks);
+        forget_all(marks, live, lits, bounds, chain);
         return Err(ChainFault::NotResolvent);
     }
-    if !is_union(marks, live, literals) {
-        empty(marks);
+    if let Some(left) = left_by(marks, live, literals) {
+        forget_all(marks, left, lits, bounds, chain);
         return Err(ChainFault::NotResolvent);
     }
     if literals.is_empty() {

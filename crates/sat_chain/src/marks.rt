@@ -1,5 +1,5 @@
 //! Marks by variable: the union between the steps of a derivation, in place.
-ghost use Rattle.std.specs.Prelude.{◌≡◌, ◌≢◌, ℕ, ◌+◌, ◌<◌, ◌≤◌, ◌↔◌, ◌==◌, length, Some, None, true, if◌then◌else◌, IsTrue, MatchBool};
+ghost use Rattle.std.specs.Prelude.{◌≡◌, ◌≢◌, ℕ, ◌+◌, ◌<◌, ◌≤◌, ◌↔◌, ◌==◌, length, Some, None, true, false, if◌then◌else◌, IsTrue, MatchBool, MatchOption};
 ghost use Rattle.std.specs.List.{All};
 ghost use Rattle.sat_chain.specs.Clause.{variable, is_positive, ascends_above};
 ghost use Rattle.sat_chain.specs.Resolvent.{sign_in, is_opposite, resolvent};
@@ -87,6 +87,7 @@ pub fn merge(marks: &mut [Option<bool>], live: usize, clause: &[i32]) -> (usize,
 fn take_out(marks: &mut [Option<bool>], lit: &i32) -> bool
     requires { variable lit.now < length marks.old }
     ensures value { IsTrue result ↔ (at marks.old (variable lit.now) ≡ Some (is_positive lit.now)) }
+    ensures kept { result ≡ false → marks.new ≡ marks.old }
     ensures union { IsTrue result → at marks.new ≡ set_at (at marks.old) (variable lit.now) None }
     ensures live { IsTrue result → live_in marks.new + 1 ≡ live_in marks.old }
 {
@@ -103,22 +104,53 @@ fn take_out(marks: &mut [Option<bool>], lit: &i32) -> bool
     }
 }
 
-/// Whether the literals are exactly those of the union, of which so many variables stand in it. If so it is emptied.
-pub fn is_union(marks: &mut [Option<bool>], live: usize, lits: &[i32]) -> bool
+/// Takes the literals out of the union, of which so many variables stand in it. None where they are exactly the union,
+/// which is empty then; else how many are left.
+pub fn left_by(marks: &mut [Option<bool>], live: usize, lits: &[i32]) -> Option<usize>
     requires within { All (λ l. variable l < length marks.old) lits.now }
     requires ascends { ascends_above 0 lits.now ≡ true }
     requires live { live ≡ live_in marks.old }
-    ensures value { IsTrue result ↔ ((x : ℕ) → at marks.old x ≡ sign_in lits.now x) }
-    ensures emptied { IsTrue result → at marks.new ≡ nothing }
+    ensures { MatchOption result (((x : ℕ) → at marks.old x ≡ sign_in lits.now x) × (at marks.new ≡ nothing))
+        (λ left. (((x : ℕ) → at marks.old x ≡ sign_in lits.now x) → ⊥) × (left ≡ live_in marks.new)) }
 {
     let mut live = live;
     for lit in lits {
         if !take_out(marks, lit) {
-            return false;
+            return Some(live);
         }
         live -= 1;
     }
-    live == 0
+    if live == 0 { None } else { Some(live) }
+}
+
+/// Takes the variable of a literal out of the union. Answers how many variables are left.
+#[inline]
+fn clear(marks: &mut [Option<bool>], live: usize, lit: &i32) -> usize
+    requires within { variable lit.now < length marks.old }
+    requires live { live ≡ live_in marks.old }
+    ensures { result ≡ live_in marks.new }
+{
+    let variable = variable_of(lit) as usize;
+    match marks[variable] {
+        None => live,
+        Some(_) => {
+            marks[variable] = None;
+            live - 1
+        }
+    }
+}
+
+/// Takes the variables of a clause out of the union. Answers how many are left.
+pub fn forget(marks: &mut [Option<bool>], live: usize, clause: &[i32]) -> usize
+    requires within { All (λ l. variable l < length marks.old) clause.now }
+    requires live { live ≡ live_in marks.old }
+    ensures { result ≡ live_in marks.new }
+{
+    let mut live = live;
+    for lit in clause {
+        live = clear(marks, live, lit);
+    }
+    live
 }
 
 /// Empties the union.

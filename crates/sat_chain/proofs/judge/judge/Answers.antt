@@ -16,31 +16,40 @@ returns-then-not-knows_all-clause-value c = λ yes. (let is : all_known (cut c.a
 pub unite-requires-clause-known : goal.unite-requires-clause-known
 unite-requires-clause-known c = known_is _ c.args.bounds.now c.args.lits.now c.args.chain.now _ c.requires.places c.knows_all.ensures ∙ c.if-not-knows_all.false
 
-pub returns-in_default-clause-value : goal.returns-in_default-clause-value
-returns-in_default-clause-value c = (known_is _ c.args.bounds.now c.args.lits.now c.args.chain.now _ c.requires.places c.knows_all.ensures ∙ c.if-not-knows_all.false, c.in_default.ensures)
+pub returns-in-Err-clause-value : goal.returns-in-Err-clause-value
+returns-in-Err-clause-value c = (known_is _ c.args.bounds.now c.args.lits.now c.args.chain.now _ c.requires.places c.knows_all.ensures ∙ c.if-not-knows_all.false, c.in-Err.ensures.0)
 
 pub returns-then-not-ascends-clause-value : goal.returns-then-not-ascends-clause-value
 returns-then-not-ascends-clause-value c = (
   known_is _ c.args.bounds.now c.args.lits.now c.args.chain.now _ c.requires.places c.knows_all.ensures ∙ c.if-not-knows_all.false,
-  some_and _ (at c.unite.new.marks) (λ u. IsResult c.args.literals.now u → ⊥) c.in-Some.ensures.0 (λ r. (let a = r.0 in let b = sym c.ascends.ensures ∙ c.if-not-ascends.true in cc)),
+  some_and _ (at c.unite.new.marks) (λ u. IsResult c.args.literals.now u → ⊥) c.in-Ok.ensures.0 (λ r. (let a = r.0 in let b = sym c.ascends.ensures ∙ c.if-not-ascends.true in cc)),
 )
 
-pub returns-then-not-is_union-clause-value : goal.returns-then-not-is_union-clause-value
-returns-then-not-is_union-clause-value c = (
+pub returns-in-Some-clause-value : goal.returns-in-Some-clause-value
+returns-in-Some-clause-value c = (
   known_is _ c.args.bounds.now c.args.lits.now c.args.chain.now _ c.requires.places c.knows_all.ensures ∙ c.if-not-knows_all.false,
-  some_and _ (at c.unite.new.marks) (λ u. IsResult c.args.literals.now u → ⊥) c.in-Some.ensures.0 (λ r. (let a = c.is_union.ensures.value.1 r.1 in let b = c.if-not-is_union.true in cc)),
+  some_and _ (at c.unite.new.marks) (λ u. IsResult c.args.literals.now u → ⊥) c.in-Ok.ensures.0 (λ r. c.in-Some.ensures.0 r.1),
 )
 
 pub returns-then-is_empty-clause-value : goal.returns-then-is_empty-clause-value
 returns-then-is_empty-clause-value c = (
   known_is _ c.args.bounds.now c.args.lits.now c.args.chain.now _ c.requires.places c.knows_all.ensures ∙ c.if-not-knows_all.false,
-  some_and _ (at c.unite.new.marks) (IsResult c.args.literals.now) c.in-Some.ensures.0 (sym c.ascends.ensures ∙ c.if-not-ascends.false, c.is_union.ensures.value.0 c.if-not-is_union.false),
+  some_and _ (at c.unite.new.marks) (IsResult c.args.literals.now) c.in-Ok.ensures.0 (sym c.ascends.ensures ∙ c.if-not-ascends.false, c.in_default.ensures.0),
   seen_empty c.args.literals.now _ c.is_empty.ensures c.if-is_empty.true,
 )
 
 pub returns-else-is_empty-clause-value : goal.returns-else-is_empty-clause-value
 returns-else-is_empty-clause-value c = (
   known_is _ c.args.bounds.now c.args.lits.now c.args.chain.now _ c.requires.places c.knows_all.ensures ∙ c.if-not-knows_all.false,
-  some_and _ (at c.unite.new.marks) (IsResult c.args.literals.now) c.in-Some.ensures.0 (sym c.ascends.ensures ∙ c.if-not-ascends.false, c.is_union.ensures.value.0 c.if-not-is_union.false),
+  some_and _ (at c.unite.new.marks) (IsResult c.args.literals.now) c.in-Ok.ensures.0 (sym c.ascends.ensures ∙ c.if-not-ascends.false, c.in_default.ensures.0),
   seen_added c.args.literals.now _ c.is_empty.ensures c.if-is_empty.false,
 )
+
+pub forget_all-requires-clause-known : goal.forget_all-requires-clause-known
+forget_all-requires-clause-known c = known_is _ c.args.bounds.now c.args.lits.now c.args.chain.now _ c.requires.places c.knows_all.ensures ∙ c.if-not-knows_all.false
+
+pub forget_all-requires-then-not-ascends-clause-known : goal.forget_all-requires-then-not-ascends-clause-known
+forget_all-requires-then-not-ascends-clause-known c = known_is _ c.args.bounds.now c.args.lits.now c.args.chain.now _ c.requires.places c.knows_all.ensures ∙ c.if-not-knows_all.false
+
+pub forget_all-requires-in-Some-clause-known : goal.forget_all-requires-in-Some-clause-known
+forget_all-requires-in-Some-clause-known c = known_is _ c.args.bounds.now c.args.lits.now c.args.chain.now _ c.requires.places c.knows_all.ensures ∙ c.if-not-knows_all.false

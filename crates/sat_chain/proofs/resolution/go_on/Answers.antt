@@ -15,14 +15,16 @@ resolve-requires-clause-to c =
     let known = known_within (cut c.args.bounds.now c.args.lits.now) c.args.chain.now c.loop-n.n-index c.requires.known (omega arith) in
     omega (arith, many, known.1)
 
-pub returns-in_default : goal.returns-in_default
-returns-in_default c =
-    reached_stop (cut c.args.bounds.now c.args.lits.now) (at c.loop-n.marks) c.args.chain.now c.loop-n.n-index _ (omega arith) c.loop-n.invariant.union c.in_default.ensures
+pub returns-in-Err : goal.returns-in-Err
+returns-in-Err c = (
+  reached_stop (cut c.args.bounds.now c.args.lits.now) (at c.loop-n.marks) c.args.chain.now c.loop-n.n-index _ (omega arith) c.loop-n.invariant.union c.in-Err.ensures.0,
+  c.in-Err.ensures.1,
+)
 
 pub loop-n-preserved : goal.loop-n-preserved
 loop-n-preserved c = record {
-  union = reached_step (cut c.args.bounds.now c.args.lits.now) (at c.loop-n.marks) c.args.chain.now c.loop-n.n-index (at c.resolve.new.marks) _ (omega arith) c.loop-n.invariant.union c.in-Some.ensures.0;
-  live = c.in-Some.ensures.1;
+  union = reached_step (cut c.args.bounds.now c.args.lits.now) (at c.loop-n.marks) c.args.chain.now c.loop-n.n-index (at c.resolve.new.marks) _ (omega arith) c.loop-n.invariant.union c.in-Ok.ensures.0;
+  live = c.in-Ok.ensures.1;
 }
 
 pub returns : goal.returns

@@ -21,4 +21,4 @@ returns-else-turned-eq1 c =
     let cs = cut c.args.bounds.now c.args.lits.now in
     let many : length cs + 1 ≡ length c.args.bounds.now = length-cut (length c.args.lits.now) c.args.bounds.now c.args.lits.now c.requires.places in
     let is : IsClause (length c.args.marks.now - 1) (clause cs c.args.n) = clause_is _ cs c.args.n c.requires.clauses c.requires.from (omega arith) in
-    step_none (at c.args.marks.now) c.clause_at.result.now (clause cs c.args.n) c.merge-now.result.1 c.clause_at.ensures is.0 c.merge-now.ensures.turned c.if-turned-eq1.false
+    (step_none (at c.args.marks.now) c.clause_at.result.now (clause cs c.args.n) c.merge-now.result.1 c.clause_at.ensures is.0 c.merge-now.ensures.turned c.if-turned-eq1.false, c.merge-now.ensures.live)

@@ -6,7 +6,7 @@ use mathlib.Core.Path.{fun_ext}
 use Rattle.sat_chain.specs.Marks.{at}
 use Rattle.sat_chain.proofs.ChainLemmas.{live_nothing, nothing_live}
 use Rattle.sat_chain.proofs.StepLemmas.{union_more, ascend_rest}
-use Rattle.sat_chain.proofs.marks.is_union.Goals as goal
+use Rattle.sat_chain.proofs.marks.left_by.Goals as goal
 
 pub loop-lit-preserved : goal.loop-lit-preserved
 loop-lit-preserved c =
@@ -18,13 +18,18 @@ loop-lit-preserved c =
       ascend = rest.0;
     }
 
-pub returns-clause-value : goal.returns-clause-value
-returns-clause-value c =
+pub returns-then-live-eq0 : goal.returns-then-live-eq0
+returns-then-live-eq0 c =
+    let none : drop c.loop-lit.lit-index c.args.lits.now ≡ [] = grind (arith, common_steps) in
+    let union = rw none at c.loop-lit.invariant.union in
+    let zero : c.loop-lit.live ≡ 0 = grind (arith, nat_tests, c.if-live-eq0.true) in
+    let all = nothing_live c.loop-lit.marks (sym c.loop-lit.invariant.live ∙ zero) in
+    (union.0 all, fun_ext all)
+
+pub returns-else-live-eq0 : goal.returns-else-live-eq0
+returns-else-live-eq0 c =
     let none : drop c.loop-lit.lit-index c.args.lits.now ≡ [] = grind (arith, common_steps) in
     let union = rw none at c.loop-lit.invariant.union in (
-      λ yes. union.0 (nothing_live c.loop-lit.marks (sym c.loop-lit.invariant.live ∙ grind (arith, nat_tests, yes))),
-      λ h. (let zero : c.loop-lit.live ≡ 0 = c.loop-lit.invariant.live ∙ live_nothing c.loop-lit.marks (union.1 h) in grind (arith, nat_tests)),
+      λ h. (let zero : c.loop-lit.live ≡ 0 = c.loop-lit.invariant.live ∙ live_nothing c.loop-lit.marks (union.1 h) in grind (arith, nat_tests, c.if-live-eq0.false)),
+      c.loop-lit.invariant.live,
     )
-
-pub returns-clause-emptied : goal.returns-clause-emptied
-returns-clause-emptied c = λ yes. fun_ext (nothing_live c.loop-lit.marks (sym c.loop-lit.invariant.live ∙ grind (arith, nat_tests, yes)))

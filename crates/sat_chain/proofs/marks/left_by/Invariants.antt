@@ -2,7 +2,7 @@ use Rattle.std.proofs.Common.{◌≡◌, ◌↔◌, ℕ, drop}
 use Rattle.sat_chain.specs.Resolvent.{sign_in}
 use Rattle.sat_chain.specs.Marks.{at, live_in}
 use Rattle.sat_chain.proofs.MarkLemmas.{AscendFrom}
-use Rattle.sat_chain.proofs.marks.is_union.Given as goal
+use Rattle.sat_chain.proofs.marks.left_by.Given as goal
 
 abbrev pub invariant-loop-lit : goal.invariant-loop-lit
 invariant-loop-lit l = record {
