@@ -1,8 +1,8 @@
 -- Resolution. Between the steps of a derivation a clause is a union: the sign of each variable that stands in it.
 --   Union, sign_in                the signs of a clause
---   opposites, IsPivot, resolved  one step: exactly one variable of opposite sign, which goes
+--   opposites, resolved, resolvent  one step: exactly one variable of opposite sign, which goes
 --   reached, union_of             the steps of a derivation, by the numbers of its clauses
-use Rattle.std.specs.Prelude.{◌≡◌, ℕ, ◌-◌, Bool, false, not, ◌==◌, if◌then◌else◌, List, [], ◌∷◌, slice_index_or, ℤ, Option, Some, None}
+use Rattle.std.specs.Prelude.{ℕ, ◌-◌, Bool, false, not, ◌==◌, if◌then◌else◌, List, [], ◌∷◌, slice_index_or, ℤ, Option, Some, None}
 use Rattle.sat_chain.specs.Clause.{variable, is_positive}
 use Rattle.std.specs.Option.{option_and_then}
 
@@ -27,10 +27,6 @@ is_opposite (Some s) b = differs s b
 abbrev pub opposites : Union → List ℤ → List ℕ
 opposites u [] = []
 opposites u (l ∷ ls) = if is_opposite (u (variable l)) (is_positive l) then variable l ∷ opposites u ls else opposites u ls
-
--- the one variable of opposite sign
-abbrev pub IsPivot : Union → List ℤ → ℕ → Type 0
-IsPivot u c p = opposites u c ≡ p ∷ []
 
 abbrev pub either : Option Bool → Option Bool → Option Bool
 either (Some s) b = Some s
