@@ -1,4 +1,7 @@
 -- Kleene's tables on 0, 1 and X, and the order in which X is above both.
+--   not_of, and_of, or_of, xor_of    the gates
+--   mux_of, join_of                  the selection, and what two values agree on
+--   IsBelow, IsSettled               the order, and what is no X
 use Rattle.std.specs.Prelude.{◌≡◌, ◌≢◌, ◌⊎◌}
 use Rattle.rdc_tern.specs.declared.value.Tern.{Tern}
 use Rattle.rdc_tern.specs.declared.value.Tern.TheVariants.{Zero, One, Unsettled}
@@ -48,8 +51,3 @@ IsBelow a b = (b ≡ a) ⊎ (b ≡ Unsettled)
 -- neither changing nor unknown
 abbrev pub IsSettled : Tern → Type 0
 IsSettled a = a ≢ Unsettled
-
--- a selection between equals is theirs where it is settled, and between ones it is X where it isn't
-pub record SelectsEquals : Type 0 where
-  pub settled : (s a : Tern) → IsSettled s → mux_of s a a ≡ a
-  pub between_ones : mux_of Unsettled One One ≡ Unsettled

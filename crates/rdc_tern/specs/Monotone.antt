@@ -13,6 +13,7 @@ pub record IsOrder : Type 0 where
 abbrev pub KeepsOrder : (Tern → Tern → Tern) → Type 0
 KeepsOrder f = (a a' b b' : Tern) → IsBelow a a' → IsBelow b b' → IsBelow (f a b) (f a' b')
 
+-- inputs that are raised raise the output, or leave it
 pub record Monotone : Type 0 where
   pub order : IsOrder
   pub inverter : (a a' : Tern) → IsBelow a a' → IsBelow (not_of a) (not_of a')

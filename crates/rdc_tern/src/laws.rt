@@ -1,7 +1,6 @@
 //! Laws of the gates, for whoever raises signals to X or simplifies logic. They compute nothing.
 
-ghost use Rattle.rdc_tern.specs.Algebra.{Algebra};
-ghost use Rattle.rdc_tern.specs.Kleene.{SelectsEquals};
+ghost use Rattle.rdc_tern.specs.Algebra.{Algebra, SelectsEquals};
 ghost use Rattle.rdc_tern.specs.Monotone.{JoinIsLeast, Monotone};
 
 /// Inputs that are raised to X leave each output as it was, or raise it to X.
@@ -14,7 +13,7 @@ pub fn join_is_least()
     ensures { JoinIsLeast }
 {}
 
-/// Commutativity, associativity, idempotence and double negation, where they hold.
+/// Commutativity, associativity, idempotence, double negation, De Morgan and constants hold; three laws of 0 and 1 don't.
 pub fn kleene_algebra()
     ensures { Algebra }
 {}
