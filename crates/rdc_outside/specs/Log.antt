@@ -3,6 +3,7 @@ use Rattle.std.specs.Prelude.{ℕ, List, Option, Some, None}
 use Rattle.rdc_outside.specs.Shelf.{Call, Load, Save, Calls}
 use Rattle.rdc_outside.specs.Pile.{Entry}
 
+-- the calls made, and what saves may still take
 pub record LogState : Type 0 where
   pub calls : Calls
   pub room : ℕ

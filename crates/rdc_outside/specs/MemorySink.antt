@@ -1,4 +1,7 @@
 -- A sink in memory: what it holds, and what each write does.
+--   SinkState, new_sink                          what it holds
+--   write_fails, count_taken, write_answer       what the next write answers
+--   sink_after_fault, sink_after_taking, sink_after      the sink after it
 use Rattle.std.specs.Prelude.{◌==◌, ◌&&◌, ◌||◌, ℕ, ◌-◌, ◌++◌, Bool, List, [], length, take, min, nat_lt, Result, Ok, Err, if◌then◌else◌}
 use Rattle.std.specs.List.{list_any}
 use Rattle.rdc_outside.specs.Counts.{counted}

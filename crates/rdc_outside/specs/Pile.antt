@@ -1,4 +1,7 @@
 -- Entries one after another, each a name with bytes: what the shelf in memory keeps its saves and its calls in.
+--   Entry, PileState, room_taken                 what a pile is to the rest of the crate
+--   span_length, entry_of, entries_of            the entries that stand in one text
+--   total_length, IsReserved                     what its vectors promise; no public clause speaks of them
 use Rattle.std.specs.Prelude.{◌≡◌, ◌≤◌, ℕ, ◌+◌, List, [], ◌∷◌, length, take, drop, Option, Vec, vec_len, vec_capacity}
 use Rattle.std.specs.declared.alloc.Global.{Global}
 use Rattle.rdc_outside.specs.declared.pile.Span.{Span}

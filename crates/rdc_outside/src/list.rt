@@ -38,18 +38,21 @@ impl<T> Seq<T> {
         Seq { items }
     }
 
+    /// How many elements there are.
     pub fn len(&self) -> usize
         ensures { result ≡ length self.now }
     {
         self.items.len()
     }
 
+    /// The elements, lent.
     pub fn as_slice(&self) -> &[T]
         ensures { result.now ≡ self.now }
     {
         self.items.as_slice()
     }
 
+    /// One more element at the end. Where memory is wanted, the element is let go.
     pub fn push(&mut self, item: T) -> Result<(), AllocError>
     where
         T: Drop,

@@ -5,6 +5,7 @@ ghost use Rattle.rdc_outside.specs.Sink.{written_with, part_taken, IsCountOf};
 
 use crate::SinkFault;
 
+/// A place for bytes. What it tells of itself, and how often it failed, are ghost fields.
 pub trait Sink {
     /// The bytes written so far, where the sink tells them.
     ghost written: { Self → Option (List ℕ) };

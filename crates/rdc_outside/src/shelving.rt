@@ -6,6 +6,7 @@ ghost use Rattle.rdc_outside.specs.Shelf.{Files, Calls, LoadAnswers, calls_after
 use crate::{LoadFault, SaveFault};
 use std::alloc::Global;
 
+/// Files by name. What a shelf tells of itself, and how often each fault came, are ghost fields.
 pub trait Shelf {
     /// The files, where the shelf tells them.
     ghost files: { Self → Option Files };

@@ -4,8 +4,10 @@ ghost use Rattle.rdc_outside.specs.Counts.{Rose};
 ghost use Rattle.rdc_outside.specs.Sink.{written_with, part_taken, IsCountOf};
 ghost use Rattle.rdc_outside.specs.Output.{out_after};
 
+use crate::transfer::write_some;
 use crate::{Sink, SinkFault};
-use std::io::ErrorKind;
+use std::io;
+use std::io::Write;
 
 /// Standard output. It doesn't tell what was written.
 #[derive(Drop)]
@@ -39,7 +41,10 @@ impl<R: Print> Sink for OutSink<R> {
         ensures only_failed { IsErrOf result SinkFault.Failed → Rose self.old.faults self.new.faults }
         ensures faults { self.old.faults ≤ self.new.faults }
     {
-        match write_some(&self.runtime, piece) {
+        let mut printed = Printed {
+            runtime: &self.runtime,
+        };
+        match write_some(&mut printed, piece) {
             Ok(count) => Ok(count),
             Err(fault) => {
                 self.faults = self.faults.saturating_add(1);
@@ -49,17 +54,18 @@ impl<R: Print> Sink for OutSink<R> {
     }
 }
 
-// Writes some of the piece. A write that a signal cut short is tried again.
-fn write_some<R: Print>(runtime: &R, piece: &[u8]) -> Result<usize, SinkFault>
-    ensures { IfOk result (λ count. IsCountOf count piece.now) }
-{
-    for _ in 0..u64::MAX {
-        match runtime.write_some(piece) {
-            Ok(count) if 0 < count || piece.is_empty() => return Ok(count),
-            Ok(_) => return Err(SinkFault::Failed),
-            Err(error) if error.kind() == ErrorKind::Interrupted => {}
-            Err(_) => return Err(SinkFault::Failed),
-        }
+// The runtime's output as a writer, which tells nothing.
+#[derive(Drop)]
+struct Printed<'a, R> {
+    runtime: &'a R,
+}
+
+impl<R: Print> Write for Printed<'_, R> {
+    fn write(&mut self, buf: &[u8]) -> io::Result<usize> {
+        self.runtime.write_some(buf)
     }
-    Err(SinkFault::Failed)
+
+    fn flush(&mut self) -> io::Result<()> {
+        Ok(())
+    }
 }

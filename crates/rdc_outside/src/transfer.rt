@@ -1,9 +1,10 @@
-//! Reading a whole file and writing one, in as many calls as the system needs.
-ghost use Rattle.std.specs.Prelude.{◌≡◌, ◌+◌, ◌++◌, ◌<◌, ◌≤◌, Some, length, vec_len, IfOk, IfSome, OnOk, IsErrOf, IsTrue};
-ghost use Rattle.std.specs.Io.KnownBytes.{prepend_known, append_known, Appends, IsAtEnd};
+//! Reading a whole file and writing one, in as many calls as the system needs, and writing some of a piece.
+ghost use Rattle.std.specs.Prelude.{◌≡◌, ◌≢◌, ◌+◌, ◌++◌, ◌<◌, ◌≤◌, Some, Err, length, take, vec_len, IfOk, IfSome, OnOk, OnErr, IsErrOf, IsTrue};
+ghost use Rattle.std.specs.Io.KnownBytes.{prepend_known, append_known, Appends, Keeps, IsAtEnd};
 ghost use Rattle.rdc_outside.specs.Disk.{IsReadAs};
+ghost use Rattle.rdc_outside.specs.Sink.{part_taken, IsCountOf};
 
-use crate::{LoadFault, SaveFault};
+use crate::{LoadFault, SaveFault, SinkFault};
 use std::alloc::Global;
 use std::io::{ErrorKind, Read, Write};
 
@@ -18,6 +19,9 @@ pub(crate) fn read_all<F: Read>(
 ) -> Result<Vec<u8>, LoadFault>
     ensures value { IfSome (F.remaining file.old) (IsReadAs most result) }
     ensures within { IfOk result (λ bytes. length bytes.items ≤ most) }
+
+    // A file that was opened is there.
+    ensures there { result ≢ Err LoadFault.Absent }
 {
     let mut bytes = Vec::new(alloc);
     for _ in 0..u64::MAX {
@@ -37,6 +41,7 @@ fn read_part<F: Read>(file: &mut F, bytes: &mut Vec<u8>, most: u64) -> Result<bo
     ensures within { OnOk result (vec_len bytes.new ≤ most) }
     ensures too_big { IsErrOf result LoadFault.TooBig → IfSome (F.remaining file.old) (λ left.
         most < length bytes.old.items + length left) }
+    ensures there { result ≢ Err LoadFault.Absent }
 {
     let mut chunk = [0u8; CHUNK];
     let left = most - bytes.len() as u64;
@@ -85,4 +90,20 @@ fn write_part<'a, F: Write>(file: &mut F, bytes: &'a [u8]) -> Result<&'a [u8], S
         Err(error) if error.kind() == ErrorKind::Interrupted => Ok(bytes),
         Err(_) => Err(SaveFault::Failed),
     }
+}
+
+/// Writes some of a piece, and answers how much. A write that a signal cut short is tried again.
+pub(crate) fn write_some<F: Write>(file: &mut F, piece: &[u8]) -> Result<usize, SinkFault>
+    ensures value { Appends (F.contents file.old) (F.contents file.new) (part_taken result piece.now) }
+    ensures count { IfOk result (λ count. IsCountOf count piece.now) }
+{
+    for _ in 0..u64::MAX {
+        match file.write(piece) {
+            Ok(count) if 0 < count || piece.is_empty() => return Ok(count),
+            Ok(_) => return Err(SinkFault::Failed),
+            Err(error) if error.kind() == ErrorKind::Interrupted => {}
+            Err(_) => return Err(SinkFault::Failed),
+        }
+    }
+    Err(SinkFault::Failed)
 }
