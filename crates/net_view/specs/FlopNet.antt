@@ -1,13 +1,12 @@
 -- A net with flops: the names and kinds of its sources, and its named bits.
---   Kind, Bit, renumbered_kind      what a source and a bit are, over numbers
---   IsPlain                         the gates that a design is made of
---   IsInNameOrder, FindsBit         bits by name
---   IsFlopAt, IsFlopNet             what every net with flops promises
-use Rattle.std.specs.Prelude.{◌≡◌, ◌≢◌, ℕ, ◌<◌, ◌≤◌, List, length, slice_get, Option, None, Some, IfSome}
+--   Kind, Bit, renumbered_kind           what a source and a bit are, over numbers
+--   IsPlain                              the gates that a design is made of
+--   IsBitAt, IsInNameOrder, FindsBit     bits by number and by name
+--   IsFlopAt, IsConnected, IsFlopNet     what every net with flops promises
+use Rattle.std.specs.Prelude.{◌≡◌, ◌≢◌, ℕ, ◌<◌, ◌≤◌, false, List, length, slice_get, Option, None, Some, IfSome}
 use Rattle.std.specs.Option.{option_map}
 use Rattle.std.specs.Ordering.{nat_cmp, is_gt}
 use Rattle.std.specs.Cmp.Lexicographic.{slice_cmp}
-use Rattle.std.specs.Prelude.{false}
 use Rattle.net_view.specs.declared.gate.Gate.TheVariants.{Const, Source, Not, And, Or, Xor, Pick, Lift}
 use Rattle.net_view.specs.declared.flop_net.SrcKind.{SrcKind}
 use Rattle.net_view.specs.declared.flop_net.SrcKind.TheVariants.{Port, BoxOut, Flop}

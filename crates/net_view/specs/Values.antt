@@ -1,4 +1,8 @@
 -- What the nodes of a net are worth in a state of its sources.
+--   State, at, settled                 a value for each source, and lists and bits as values
+--   pick_of, lift_of, gate_value       what a gate makes of its inputs
+--   IsValuation, values_after, values  the values of all nodes: what they are, and how they are found
+--   IsRaised                           when a state tells no more than another
 use Rattle.std.specs.Prelude.{◌≡◌, ℕ, Bool, List, [], ◌∷◌, ◌++◌, length, slice_index_or, if◌then◌else◌}
 use Rattle.rdc_tern.specs.declared.value.Tern.{Tern}
 use Rattle.rdc_tern.specs.declared.value.Tern.TheVariants.{Zero, One, Unsettled}

@@ -18,4 +18,4 @@ pub record IsUnsettledIn (m : Machine) (s : State) (r : ℕ) : Type 0 where
 
 -- a reset of this active level is X, or settled asserted while a flop of its domain is X
 abbrev pub IsInProgress : Machine → State → ℕ → Bool → Type 0
-IsInProgress m s r high = (s r ≡ Unsettled) ⊎ (s r ≡ settled high) × IsUnsettledIn m s r
+IsInProgress m s r high = (s r ≡ Unsettled) ⊎ ((s r ≡ settled high) × IsUnsettledIn m s r)

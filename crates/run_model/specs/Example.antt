@@ -1,5 +1,8 @@
 -- A small machine: flop a takes d at ca and is reset by ra, flop q takes a at cb and is reset by rb; both resets are active low.
 -- Its sources in name order: a is 0, ca 1, cb 2, d 3, q 4, ra 5, rb 6.
+--   wire, plain_flop, example_source, example_declared, example_fixed, example      the machine
+--   busy_events, EveryKindComes                    a run in which every kind of event comes
+--   crossing_events, CrossingIsDisturbed           a run that ends in a disturbance
 use Rattle.std.specs.Prelude.{ℕ, Bool, true, false, if◌then◌else◌, ◌==◌, List, [], ◌∷◌, Option, Some, None}
 use Rattle.run_model.specs.declared.event.Event.{Event}
 use Rattle.run_model.specs.declared.event.Event.TheVariants.{Rise, Fall, Strike, Calm, Release, Drive}

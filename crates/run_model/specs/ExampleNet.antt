@@ -1,4 +1,6 @@
 -- The small machine of Example.antt as a net: one node a source, and the two pins as named bits.
+--   example_gates, example_names, example_flop, example_kinds, example_bits      its lists
+--   example_netlist, example_resets                                              the net, and its declared resets
 use Rattle.std.specs.Prelude.{ℕ, Bool, true, false, List, [], ◌∷◌, Some}
 use Rattle.net_view.specs.declared.gate.Gate.TheVariants.{Source}
 use Rattle.net_view.specs.declared.flop_net.SrcKind.TheVariants.{Port, Flop}

@@ -1,4 +1,4 @@
--- What the passes of a step do to a state, and which flop they name.
+-- What the passes of a step do to a state, and which flop they name. No public clause speaks of them.
 --   written                          what a pass leaves
 --   is_unsettled, is_inactive        tests of a value and of a pin
 --   takes_unsettled, is_left         tests of a source, for an edge and for a Calm
