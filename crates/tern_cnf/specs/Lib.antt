@@ -1,0 +1,7 @@
+pub mod Written
+pub mod Rails
+pub mod Sums
+pub mod Asked
+pub mod States
+pub mod Grown
+pub mod SmallNet
