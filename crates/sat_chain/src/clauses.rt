@@ -61,6 +61,7 @@ impl Clauses {
     pub fn len(&self) -> u64
         ensures value { result ≡ length self.now.clauses }
         ensures lawful { AreClauses self.now.vars self.now.clauses }
+        ensures few { self.now.vars < 2 ^ 31 }
     {
         self.places.len()
     }

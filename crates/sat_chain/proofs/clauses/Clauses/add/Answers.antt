@@ -18,6 +18,7 @@ invariant_of-self-in-Ok-push c =
     (c.len-start.ensures ∙ c.self.inside.lits.ok.0) (c.len.ensures ∙ c.extend_from_slice.new.self.ok.0) c.in-Ok-push.ensures.ok.1 in
     let vars = ap (λ k. k.vars) c.self.view_is in
     record {
+      few = c.self.invariant.few;
       places = p.0;
       clauses = placed_more c.self.inside.vars (pieces c.self.inside.lits.items c.self.inside.places) _ c.args.lits.now p.1 c.self.invariant.clauses (subst (λ (v : ℕ). IsClause v c.args.lits.now) (sym vars) c.requires.clause);
     }
@@ -28,4 +29,4 @@ invariant_of-self-in-Err c =
     let same : c.truncate.new.self.items ≡ c.self.inside.lits.items =
     c.truncate.ensures.items ∙ ap (λ n. take n c.extend_from_slice.new.self.items) start ∙ take_front c.self.inside.lits.items c.args.lits.now c.extend_from_slice.new.self.items c.in-Ok.ensures.items in
     let k = placed_kept c.self.inside.vars c.self.inside.lits.items c.truncate.new.self.items c.self.inside.places same c.self.invariant.places c.self.invariant.clauses in
-    record { places = rw c.in-Err.ensures.ok k.0; clauses = rw c.in-Err.ensures.ok k.1 }
+    record { few = c.self.invariant.few; places = rw c.in-Err.ensures.ok k.0; clauses = rw c.in-Err.ensures.ok k.1 }

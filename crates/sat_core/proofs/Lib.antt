@@ -1,0 +1,9 @@
+pub mod FalseLemmas
+pub mod UnionLemmas
+pub mod LiteralLemmas
+pub mod DeriveLemmas
+pub mod PathLemmas
+pub mod RankLemmas
+pub mod AnswerLemmas
+pub mod SearchLemmas
+pub mod SoundLemmas

@@ -1,0 +1,5 @@
+pub mod Counts
+pub mod Answers
+pub mod Path
+pub mod Marked
+pub mod Search
