@@ -1,0 +1,4 @@
+pub mod Bytes
+pub mod Modes
+pub mod Items
+pub mod Stack

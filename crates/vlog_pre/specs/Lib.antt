@@ -1,0 +1,11 @@
+pub mod Kinds
+pub mod Levels
+pub mod Meanings
+pub mod Known
+pub mod Readings
+pub mod Macros
+pub mod Directives
+pub mod Uses
+pub mod Expansion
+pub mod Answer
+pub mod Turns
