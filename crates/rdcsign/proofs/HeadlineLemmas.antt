@@ -4,7 +4,7 @@ use Rattle.std.specs.Prelude.{IfSome}
 use Rattle.rdc_outside.specs.Shelf.{Files, Call}
 use Rattle.rdc_outside.specs.declared.outcome.Status.{Status}
 use Rattle.rdc_outside.specs.declared.outcome.Status.TheVariants as statuses
-use Rattle.thin_form.specs.Design.{Source}
+use Rattle.thin_form.specs.Design.{Design}
 use Rattle.thin_form.specs.Source.{Spells, IsOneDesign}
 use Rattle.thin_cons.specs.Roles.{Declares}
 use Rattle.thin_cons.specs.declared.role.Role.{Role}
@@ -27,28 +27,28 @@ same_bytes a b e = cc
 
 -- the report of a clean call is that of the design that the files spell
 spelled_is_safe : IsOneDesign → (files : Files) (r : Request) (constraints source report : List ℕ) (crossing : Bool) → crossing ≡ false → IsLoaded (Some files) r.constraints constraints
-    → IsLoaded (Some files) r.file source → IsReport r.top constraints source report crossing → (design : List Source) (roles : List Role) → Spell files r design roles → IsSafe (machine_of design roles)
+    → IsLoaded (Some files) r.file source → IsReport r.top constraints source report crossing → (design : Design) (roles : List Role) → Spell files r design roles → IsSafe (machine_of design roles)
 spelled_is_safe one files r constraints source report crossing clean c s is design roles spell =
     let constraints-is : constraints ≡ spell.loaded.constraints = same_bytes constraints spell.loaded.constraints (sym c.value ∙ spell.loaded.has_constraints) in
     let source-is : source ≡ spell.loaded.source = same_bytes source spell.loaded.source (sym s.value ∙ spell.loaded.has_source) in
     let spells : Spells r.top source design = subst (λ (bytes : List ℕ). Spells r.top bytes design) (sym source-is) spell.of_form.design_is in
     let design-is : is.design ≡ design = one r.top source is.design design is.of_form.design_is spells in
     let declares : Declares design constraints roles = subst (λ (bytes : List ℕ). Declares design bytes roles) (sym constraints-is) spell.of_form.roles_are in
-    let declares' : Declares is.design constraints roles = subst (λ (d : List Source). Declares d constraints roles) (sym design-is) declares in
+    let declares' : Declares is.design constraints roles = subst (λ (d : Design). Declares d constraints roles) (sym design-is) declares in
     let roles-is : is.roles ≡ roles = one_declaration is.design constraints is.roles roles is.of_form.roles_are declares' in
-    let safe = design_is_safe is.design constraints is.roles is.lawful is.of_form.roles_are (sym is.verdict ∙ clean) in
-    subst (λ (d : List Source). IsSafe (machine_of d roles)) design-is (subst (λ (list : List Role). IsSafe (machine_of is.design list)) roles-is safe)
+    let safe = design_is_safe is.design constraints is.roles is.closed is.of_form.roles_are (sym is.verdict ∙ clean) in
+    subst (λ (d : Design). IsSafe (machine_of d roles)) design-is (subst (λ (list : List Role). IsSafe (machine_of is.design list)) roles-is safe)
 
 -- a judgement comes with both files in hand
 judged_is_safe : IsOneDesign → (files : Files) (r : Request) (report : List ℕ) (crossing : Bool) (made : List Call) → crossing ≡ false → Ends (Some files) r (Judged report crossing) made
-    → (design : List Source) (roles : List Role) → Spell files r design roles → IsSafe (machine_of design roles)
+    → (design : Design) (roles : List Role) → Spell files r design roles → IsSafe (machine_of design roles)
 judged_is_safe one files r report crossing made clean (at_constraints is made-is) = absurd is
 judged_is_safe one files r report crossing made clean (at_file constraints loaded is made-is) = absurd is
 judged_is_safe one files r report crossing made clean (with_both constraints source c s is made-is) = spelled_is_safe one files r constraints source report crossing clean c s is
 
 -- Clean is the status of a judgement without a crossing alone
 clean_end_is_safe : IsOneDesign → (files : Files) (r : Request) (outcome : Outcome) (made : List Call) (whole : Bool) → statuses.Clean ≡ status_at outcome whole → Ends (Some files) r outcome made
-    → (design : List Source) (roles : List Role) → Spell files r design roles → IsSafe (machine_of design roles)
+    → (design : Design) (roles : List Role) → Spell files r design roles → IsSafe (machine_of design roles)
 clean_end_is_safe one files r Usage made true e = absurd cc
 clean_end_is_safe one files r Usage made false e = absurd cc
 clean_end_is_safe one files r (Absent n) made true e = absurd cc

@@ -1,7 +1,7 @@
 -- The answers of the stages of a call, as outcomes.
 use Rattle.std.specs.Prelude.{◌≡◌, ℕ, List, Option, Result, Ok, Err}
 use Rattle.rdc_outside.specs.Shelf.{Files, Calls, Call}
-use Rattle.thin_form.specs.Design.{Source}
+use Rattle.thin_form.specs.Design.{Design}
 use Rattle.thin_cons.specs.Roles.{Declares}
 use Rattle.thin_cons.specs.declared.role.Role.{Role}
 use Rattle.rdcsign.specs.declared.refusal.Refusal.{Refusal}
@@ -26,7 +26,7 @@ IsNoDesign r source (Read n) = ⊥
 IsNoDesign r source (Judged report crossing) = ⊥
 
 -- the constraints give the design's sources no roles, or memory is wanted
-abbrev pub AreNoRoles : Request → List Source → List ℕ → Outcome → Type 0
+abbrev pub AreNoRoles : Request → Design → List ℕ → Outcome → Type 0
 AreNoRoles r design constraints (NotYet n) = (n ≡ r.constraints) × ((roles : List Role) → Declares design constraints roles → ⊥)
 AreNoRoles r design constraints Memory = Unit {0}
 AreNoRoles r design constraints Usage = ⊥

@@ -1,18 +1,16 @@
 -- What a design of this form does: its machine, in the words of the event model. A source's number is its place in name order.
---     copy_of n      the net that is source n
+--     copy_of n, pin_of n high      the net that is source n, and the pin that it is
 --     flop_meaning, meaning_of      what a source is
 --     level_of, clock_value      what its role makes of it
 --     flops_from      the flops, in pin order
 --     machine_of design roles      the machine
 use Rattle.std.specs.Prelude.{ℕ, ◌+◌, ◌==◌, Bool, true, false, List, [], ◌∷◌, length, Option, Some, None}
-use Rattle.thin_form.specs.Design.{Source, kind_at}
-use Rattle.thin_form.specs.declared.kind.Kind.{Kind}
-use Rattle.thin_form.specs.declared.kind.Kind.TheVariants.{Input, Register}
-use Rattle.thin_form.specs.declared.kind.Flop.{Flop}
+use Rattle.thin_form.specs.Design.{Flop, Kind, Input, Register, Source, Design, kind_at}
 use Rattle.thin_cons.specs.Roles.{role_at}
 use Rattle.thin_cons.specs.declared.role.Role.{Role}
 use Rattle.thin_cons.specs.declared.role.Role.TheVariants.{Free, Clock, Reset}
 use Rattle.run_model.specs.Machine.{Logic, Pin, FlopMeaning, Meaning, APort, AFlop, Machine}
+use Rattle.rdcsign.specs.FormulaValue.{logic_of}
 
 -- a net that is one source
 abbrev pub copy_of : ℕ → Logic
@@ -22,10 +20,11 @@ copy_of n = record { value = λ state. state n; cone = λ k. k == n }
 abbrev pub pin_of : ℕ → Bool → Pin
 pin_of n high = record { logic = copy_of n; high = high; root = n; copied = Some n }
 
--- a flop takes its data at the rising edge of its clock, and is reset by its pin
+-- a flop takes what its formula computes at the rising edge of its clock, and is reset by its pin
 abbrev pub flop_meaning : Flop → FlopMeaning
-flop_meaning f = record { clock = Some f.clock; rising = true; reads = copy_of f.data; pin = Some (pin_of f.pin f.high); reset = f.reset }
+flop_meaning f = record { clock = Some f.clock; rising = true; reads = logic_of f.next; pin = Some (pin_of f.pin f.high); reset = f.reset }
 
+-- what a source is: a port, or a flop
 abbrev pub meaning_of : Kind → Meaning
 meaning_of Input = APort
 meaning_of (Register f) = AFlop (flop_meaning f)
@@ -53,11 +52,11 @@ flops_from n [] = []
 flops_from n (s ∷ ss) = put_flop s.kind n (flops_from (n + 1) ss)
 
 -- the machine of a design under the roles of its sources; no pin reads a flop, so name order is a pin order
-abbrev pub machine_of : List Source → List Role → Machine
+abbrev pub machine_of : Design → List Role → Machine
 machine_of design roles = record {
-  count = length design;
+  count = length design.sources;
   source = λ n. meaning_of (kind_at design n);
   declared = λ n. level_of (role_at roles n);
   fixed = λ n. clock_value (role_at roles n);
-  order = flops_from 0 design;
+  order = flops_from 0 design.sources;
 }

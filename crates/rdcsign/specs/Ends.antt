@@ -5,11 +5,12 @@
 use Rattle.std.specs.Prelude.{◌≡◌, ◌<◌, ◌≤◌, ◌⊎◌, ℕ, Bool, List, [], ◌∷◌, length, Option, Some, None, IfSome, IsSomeAnd}
 use Rattle.rdc_outside.specs.Shelf.{Files, Call, Load}
 use Rattle.thin_form.specs.Source.{Spells}
-use Rattle.thin_form.specs.Design.{Source, IsLawful}
+use Rattle.thin_form.specs.Design.{Design}
 use Rattle.thin_cons.specs.Roles.{Declares}
 use Rattle.thin_cons.specs.declared.role.Role.{Role}
 use Rattle.rdcsign.specs.declared.loading.TheConstants.{MOST}
 use Rattle.rdcsign.specs.Request.{Request, request_of}
+use Rattle.rdcsign.specs.Closed.{IsClosed}
 use Rattle.rdcsign.specs.Verdict.{crosses}
 use Rattle.rdcsign.specs.Report as texts
 use Rattle.rdcsign.specs.Outcome.{Outcome, Usage, Absent, Read, NotYet, Memory, Judged}
@@ -35,23 +36,23 @@ load_unless_memory name outcome = Load name MOST ∷ []
 
 -- the source spells no design
 abbrev pub SpellsNone : List ℕ → List ℕ → Type 0
-SpellsNone top source = (design : List Source) → Spells top source design → ⊥
+SpellsNone top source = (design : Design) → Spells top source design → ⊥
 
 -- the source spells a design, and the constraints give its sources no roles
 abbrev pub DeclaresNone : List ℕ → List ℕ → List ℕ → Type 0
-DeclaresNone top constraints source = (design : List Source) × Spells top source design × ((roles : List Role) → Declares design constraints roles → ⊥)
+DeclaresNone top constraints source = (design : Design) × Spells top source design × ((roles : List Role) → Declares design constraints roles → ⊥)
 
 -- the source spells this design, and the constraints give its sources these roles
-pub record IsOfForm (top constraints source : List ℕ) (design : List Source) (roles : List Role) : Type 0 where
+pub record IsOfForm (top constraints source : List ℕ) (design : Design) (roles : List Role) : Type 0 where
   pub design_is : Spells top source design
   pub roles_are : Declares design constraints roles
 
 -- this is the report on the two files, and whether an edge crosses
 pub record IsReport (top constraints source report : List ℕ) (crossing : Bool) : Type 0 where
-  pub design : List Source
+  pub design : Design
   pub roles : List Role
   pub of_form : IsOfForm top constraints source design roles
-  pub lawful : IsLawful design
+  pub closed : IsClosed design
   pub text : report ≡ texts.report top design roles
   pub verdict : crossing ≡ crosses design roles
 

@@ -1,5 +1,8 @@
 pub mod Request
+pub mod FormulaValue
+pub mod Closed
 pub mod Verdict
+pub mod Origin
 pub mod Report
 pub mod Draft
 pub mod Outcome

@@ -22,6 +22,7 @@ pub data Outcome : Type 0 where
   Read : (name : List ℕ) → Outcome
   -- a file is not of the form that is built
   NotYet : (name : List ℕ) → Outcome
+  -- memory ran out
   Memory : Outcome
   -- the design is judged
   Judged : (report : List ℕ) (crossing : Bool) → Outcome

@@ -6,7 +6,7 @@ use Rattle.std.specs.Prelude.{◌≡◌, ◌<◌, ◌≤◌, ◌⊎◌, ℕ, Boo
 use Rattle.rdc_outside.specs.Shelf.{Files, Calls, Call}
 use Rattle.rdc_outside.specs.declared.outcome.Status.{Status}
 use Rattle.rdc_outside.specs.declared.outcome.Status.TheVariants as statuses
-use Rattle.thin_form.specs.Design.{Source}
+use Rattle.thin_form.specs.Design.{Design}
 use Rattle.thin_cons.specs.declared.role.Role.{Role}
 use Rattle.rdcsign.specs.declared.loading.TheConstants.{MOST}
 use Rattle.rdcsign.specs.Request.{Request, request_of}
@@ -41,13 +41,13 @@ pub record AreLoaded (files : Files) (r : Request) : Type 0 where
   pub source_fits : length source ≤ MOST
 
 -- the files of the request spell this design, and give its sources these roles
-pub record Spell (files : Files) (r : Request) (design : List Source) (roles : List Role) : Type 0 where
+pub record Spell (files : Files) (r : Request) (design : Design) (roles : List Role) : Type 0 where
   pub loaded : AreLoaded files r
   pub of_form : IsOfForm r.top loaded.constraints loaded.source design roles
 
 -- the files of the request spell a design in which an edge crosses, or none does
 pub record IsJudgedAs (crossing : Bool) (files : Files) (r : Request) : Type 0 where
-  pub design : List Source
+  pub design : Design
   pub roles : List Role
   pub spelled : Spell files r design roles
   pub verdict : crosses design roles ≡ crossing
@@ -81,5 +81,6 @@ abbrev pub IsCauseOf : Files → Option Request → Status → Type 0
 IsCauseOf files None status = status ≡ statuses.Usage
 IsCauseOf files (Some r) status = IsCauseFor files r status
 
+-- the same of the words of the command line
 abbrev pub IsCause : Files → List (List ℕ) → Status → Type 0
 IsCause files words status = IsCauseOf files (request_of words) status

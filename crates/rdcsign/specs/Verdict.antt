@@ -1,13 +1,11 @@
--- Which flops read across resets, by structure alone. In this form of source a flop reads one source: its cone is that one.
+-- Which flops read across resets, by structure alone.
 --     is_same design roles f      the edge of a flop is the same
---     is_crossing, is_settled_edge      the same of a source's kind
+--     is_crossing, is_same_edge      the same of a source's kind
 --     crosses design roles      some edge crosses
 use Rattle.std.specs.Prelude.{Bool, true, false, not, ◌&&◌, ◌==◌, if◌then◌else◌, List}
-use Rattle.std.specs.List.{list_any}
-use Rattle.thin_form.specs.Design.{Source, kind_at}
-use Rattle.thin_form.specs.declared.kind.Kind.{Kind}
-use Rattle.thin_form.specs.declared.kind.Kind.TheVariants.{Input, Register}
-use Rattle.thin_form.specs.declared.kind.Flop.{Flop}
+use Rattle.std.specs.List.{list_any, list_all}
+use Rattle.thin_form.specs.Formula.{sources_in}
+use Rattle.thin_form.specs.Design.{Flop, Kind, Input, Register, Design, kind_at}
 use Rattle.thin_cons.specs.Roles.{role_at}
 use Rattle.thin_cons.specs.declared.role.Role.{Role}
 use Rattle.thin_cons.specs.declared.role.Role.TheVariants.{Free, Clock, Reset}
@@ -27,20 +25,20 @@ abbrev pub reads_same : Flop → Role → Kind → Bool
 reads_same f role Input = is_no_reset role
 reads_same f role (Register g) = has_pin_of f g
 
--- the edge of a flop is the same: no reset port is in its data's cone, and each flop there has its own pin
-abbrev pub is_same : List Source → List Role → Flop → Bool
-is_same design roles f = reads_same f (role_at roles f.data) (kind_at design f.data)
+-- the edge of a flop is the same: no reset port stands in the cone of what it takes, and each flop there has its own pin
+abbrev pub is_same : Design → List Role → Flop → Bool
+is_same design roles f = list_all (λ n. reads_same f (role_at roles n) (kind_at design n)) (sources_in f.next)
 
 -- a flop whose edge is the same
-abbrev pub is_same_edge : List Source → List Role → Kind → Bool
+abbrev pub is_same_edge : Design → List Role → Kind → Bool
 is_same_edge design roles Input = false
 is_same_edge design roles (Register f) = is_same design roles f
 
 -- a flop whose edge crosses
-abbrev pub is_crossing : List Source → List Role → Kind → Bool
+abbrev pub is_crossing : Design → List Role → Kind → Bool
 is_crossing design roles Input = false
 is_crossing design roles (Register f) = not (is_same design roles f)
 
 -- some edge crosses
-abbrev pub crosses : List Source → List Role → Bool
-crosses design roles = list_any (λ s. is_crossing design roles s.kind) design
+abbrev pub crosses : Design → List Role → Bool
+crosses design roles = list_any (λ s. is_crossing design roles s.kind) design.sources

@@ -2,11 +2,12 @@
 
 ghost use Rattle.std.specs.Prelude.{◌≡◌, ◌≤◌, ℕ, length, IfOk, IfErr};
 ghost use Rattle.thin_form.specs.Source.{Spells};
-ghost use Rattle.thin_form.specs.Design.{IsLawful};
+ghost use Rattle.thin_form.specs.Netlist.{design_of};
 ghost use Rattle.thin_cons.specs.Roles.{Declares};
 ghost use Rattle.rdcsign.specs.declared.loading.TheConstants.{MOST};
 ghost use Rattle.rdcsign.specs.Request.{seen, texts};
 ghost use Rattle.rdcsign.specs.Outcome.{refused};
+ghost use Rattle.rdcsign.specs.Closed.{IsClosed};
 ghost use Rattle.rdcsign.specs.Ends.{IsJudgement};
 ghost use Rattle.rdcsign.specs.Loads.{CountsRefusal};
 ghost use Rattle.rdcsign.specs.Answers.{outcome_of, IsNoDesign, AreNoRoles, EndsListed, EndsWords};
@@ -18,22 +19,22 @@ use crate::request::{Request, read_words};
 use rdc_outside::Shelf;
 use std::alloc::Global;
 use thin_cons::{ConsFault, Roles, declare};
-use thin_form::{Design, FormFault};
+use thin_form::{FormFault, Netlist};
 
 /// The design that the source spells.
 fn read_design<'a, 'b>(
     alloc: Global,
     request: &Request<'a>,
     source: &'b [u8],
-) -> Result<Design<'b>, Refusal<'a>>
+) -> Result<Netlist<'b>, Refusal<'a>>
     requires { length source.now ≤ MOST }
-    ensures design { IfOk result (λ d. Spells request.now.top.now source.now d) }
-    ensures lawful { IfOk result (λ d. IsLawful d) }
+    ensures design { IfOk result (λ d. Spells request.now.top.now source.now (design_of d)) }
+    ensures closed { IfOk result (λ d. IsClosed (design_of d)) }
     ensures refused { IfErr result (λ r. IsNoDesign (seen request.now) source.now (refused r)) }
 {
     match thin_form::read(alloc, request.top.as_bytes(), source) {
         Ok(design) => {
-            let _sources = design.len();
+            let _sources = design.sources();
             Ok(design)
         }
         Err(FormFault::Memory) => Err(Refusal::Memory),
@@ -45,12 +46,12 @@ fn read_design<'a, 'b>(
 fn read_roles<'a>(
     alloc: Global,
     request: &Request<'a>,
-    design: &Design,
+    design: &Netlist,
     constraints: &[u8],
 ) -> Result<Roles, Refusal<'a>>
-    ensures roles { IfOk result (λ roles. Declares design.now constraints.now roles) }
-    ensures fit { IfOk result (λ roles. length roles ≡ length design.now) }
-    ensures refused { IfErr result (λ r. AreNoRoles (seen request.now) design.now constraints.now (refused r)) }
+    ensures roles { IfOk result (λ roles. Declares (design_of design.now) constraints.now roles) }
+    ensures fit { IfOk result (λ roles. length roles ≡ length design.now.sources) }
+    ensures refused { IfErr result (λ r. AreNoRoles (seen request.now) (design_of design.now) constraints.now (refused r)) }
 {
     match declare(alloc, design, constraints) {
         Ok(roles) => Ok(roles),

@@ -8,6 +8,7 @@
 mod checking;
 mod conclusion;
 mod loading;
+mod origin;
 mod plain;
 mod refusal;
 mod report;

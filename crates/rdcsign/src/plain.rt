@@ -1,14 +1,15 @@
 //! A design of the first form as a net, for what is generic over nets.
 
-ghost use Rattle.std.specs.Prelude.{◌≡◌, ◌<◌, ◌≤◌, List, length};
-ghost use Rattle.thin_form.specs.Design.{name_at};
+ghost use Rattle.std.specs.Prelude.{◌≡◌, ◌≤◌, List, length};
+ghost use Rattle.std.specs.Str.{IsUtf8};
+ghost use Rattle.thin_form.specs.Netlist.{design_of};
 ghost use Rattle.thin_cons.specs.declared.role.Role.{Role};
 ghost use Rattle.run_model.specs.Agrees.{Agrees};
 ghost use Rattle.rdcsign.specs.DesignMachine.{machine_of};
-ghost use Rattle.rdcsign.specs.PlainNet.{net_machine};
+ghost use Rattle.rdcsign.specs.PlainNet.{net_machine, HasBitValues};
 
 use net_view::{FlopNet, FlopOf, Gate, SrcKind, View};
-use thin_form::{Design, Kind};
+use thin_form::{Kind, Netlist, Node as FormNode};
 
 /// A node of a plain net.
 #[derive(Clone, Copy, Debug, PartialEq, Eq)]
@@ -18,15 +19,16 @@ pub struct Node(u32);
 #[derive(Clone, Copy, Debug, PartialEq, Eq)]
 pub struct Port(u32);
 
-/// The design as a net: each source is its own node and its own bit, with the number that it has in the design.
+/// The design as a net: its nodes are gates, its sources and bits have the numbers that they have in the design.
+#[derive(Drop)]
 pub struct PlainNet<'d, 'a> {
-    design: &'d Design<'a>,
-    ghost small: { length design.now ≤ 16777216 },
+    design: &'d Netlist<'a>,
+    ghost small: { length design.now.nodes ≤ 16777216 },
 }
 
 impl<'d, 'a> PlainNet<'d, 'a> {
-    pub fn new(design: &'d Design<'a>) -> PlainNet<'d, 'a>
-        requires { length design.now ≤ 16777216 }
+    pub fn new(design: &'d Netlist<'a>) -> PlainNet<'d, 'a>
+        requires { length design.now.nodes ≤ 16777216 }
         ensures { result.design.now ≡ design.now }
     {
         PlainNet { design }
@@ -35,26 +37,27 @@ impl<'d, 'a> PlainNet<'d, 'a> {
 
 impl<'d, 'a> View for PlainNet<'d, 'a> {
     ghost use Rattle.std.specs.Prelude.{length};
-    ghost use Rattle.rdcsign.specs.PlainNet.{gates_from};
+    ghost use Rattle.rdcsign.specs.PlainNet.{gates_of};
 
     type Node = Node;
 
     type Src = Port;
 
-    ghost gates = { λ net. gates_from 0 net.design.now };
+    ghost gates = { λ net. gates_of net.design.now };
 
-    ghost source_count = { λ net. length net.design.now };
+    ghost source_count = { λ net. length net.design.now.sources };
 
     ghost node_number = { λ n. n.0 };
 
     ghost source_number = { λ s. s.0 };
 
     fn nodes(&self) -> u32 {
-        self.design.len()
+        let _sources = self.design.sources();
+        self.design.nodes()
     }
 
     fn node(&self, n: u32) -> Option<Node> {
-        if n < self.design.len() {
+        if n < self.design.nodes() {
             Some(Node(n))
         } else {
             None
@@ -66,7 +69,7 @@ impl<'d, 'a> View for PlainNet<'d, 'a> {
     }
 
     fn sources(&self) -> u32 {
-        self.design.len()
+        self.design.sources()
     }
 
     fn src_index(&self, s: Port) -> u32 {
@@ -74,25 +77,31 @@ impl<'d, 'a> View for PlainNet<'d, 'a> {
     }
 
     fn gate(&self, n: Node) -> Gate<Node, Port> {
-        Gate::Source(Port(n.0))
+        match self.design.node(n.0) {
+            FormNode::Source(s) => Gate::Source(Port(s)),
+            FormNode::Not(a) => Gate::Not(Node(a)),
+            FormNode::And(a, b) => Gate::And(Node(a), Node(b)),
+            FormNode::Or(a, b) => Gate::Or(Node(a), Node(b)),
+        }
     }
 }
 
 impl<'d, 'a> FlopNet for PlainNet<'d, 'a> {
-    ghost use Rattle.thin_form.specs.Design.{names};
-    ghost use Rattle.rdcsign.specs.PlainNet.{kinds_in_net, bits_from};
+    ghost use Rattle.rdcsign.specs.PlainNet.{names_of, kinds_of, bits_from};
 
-    ghost names = { λ net. names net.design.now };
+    ghost names = { λ net. names_of net.design.now };
 
-    ghost kinds = { λ net. kinds_in_net net.design.now };
+    ghost kinds = { λ net. kinds_of net.design.now };
 
-    ghost named_bits = { λ net. bits_from 0 net.design.now };
+    ghost named_bits = { λ net. bits_from 0 net.design.now.bits };
 
     fn name(&self, s: Port) -> &str {
-        name_text(self.design, s.0)
+        let _sources = self.design.sources();
+        text(self.design.name(s.0))
     }
 
     fn kind(&self, s: Port) -> SrcKind<Node> {
+        let _sources = self.design.sources();
         match self.design.kind(s.0) {
             Kind::Input => SrcKind::Port,
             Kind::Register(flop) => SrcKind::Flop(FlopOf {
@@ -103,21 +112,23 @@ impl<'d, 'a> FlopNet for PlainNet<'d, 'a> {
                 pin: Some(Node(flop.pin)),
                 high: flop.high,
                 reset: flop.reset,
-                root: flop.pin,
+                root: self.design.bit_of(flop.pin),
             }),
         }
     }
 
     fn bits(&self) -> u32 {
-        self.design.len()
+        let _sources = self.design.sources();
+        self.design.bits()
     }
 
     fn bit_name(&self, b: u32) -> &str {
-        name_text(self.design, b)
+        let _sources = self.design.sources();
+        text(self.design.bit(b).name)
     }
 
     fn bit_node(&self, b: u32) -> Node {
-        Node(b)
+        Node(self.design.bit(b).node)
     }
 
     fn bit_root(&self, b: u32) -> u32 {
@@ -125,18 +136,17 @@ impl<'d, 'a> FlopNet for PlainNet<'d, 'a> {
     }
 
     fn find(&self, name: &str) -> Option<u32> {
-        let _sources = self.design.len();
-        self.design.number(name.as_bytes())
+        let _sources = self.design.sources();
+        self.design.find(name.as_bytes())
     }
 }
 
-/// The name of a source as text: identifiers are ASCII.
-fn name_text<'d, 'a>(design: &'d Design<'a>, n: u32) -> &'a str
-    requires { n < length design.now }
-    ensures { result.now ≡ name_at design.now n }
+/// A name as text: identifiers are ASCII.
+fn text(name: &[u8]) -> &str
+    requires { IsUtf8 name.now }
+    ensures { result.now ≡ name.now }
 {
-    let _sources = design.len();
-    match std::str::from_utf8(design.name(n)) {
+    match std::str::from_utf8(name) {
         Ok(text) => text,
         Err(_) => unreachable!(),
     }
@@ -144,7 +154,8 @@ fn name_text<'d, 'a>(design: &'d Design<'a>, n: u32) -> &'a str
 
 /// The net's machine is the design's, so that what is proved of one holds of the other.
 pub fn net_is_design<'d, 'a>(net: &PlainNet<'d, 'a>)
-    ensures { (roles : List Role) → Agrees (net_machine net.now.design.now roles) (machine_of net.now.design.now roles) }
+    ensures machine { (roles : List Role) → Agrees (net_machine net.now.design.now roles) (machine_of (design_of net.now.design.now) roles) }
+    ensures bits { HasBitValues net.now.design.now }
 {
-    let _sources = net.design.len();
+    let _sources = net.design.sources();
 }

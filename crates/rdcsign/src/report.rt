@@ -1,16 +1,17 @@
 //! The text of a report.
 
 ghost use Rattle.std.specs.Prelude.{◌≡◌, ℕ, ◌<◌, ◌+◌, ◌++◌, ◌^◌, length, List, IfOk, OnOk, if◌then◌else◌};
-ghost use Rattle.thin_form.specs.Design.{kind_at, name_at, IsLawful};
-ghost use Rattle.rdcsign.specs.Verdict.{is_same_edge, is_crossing, crosses};
+ghost use Rattle.thin_form.specs.Netlist.{IsLawful, design_of};
+ghost use Rattle.rdcsign.specs.Verdict.{crosses};
 ghost use Rattle.rdcsign.specs.Draft.{AddsSource, AddsSources, source_at};
 ghost use Rattle.rdcsign.specs.Report.{report, edge_line, counts_line, verdict_line, heading_lines};
 
+use crate::origin::Traced;
 use crate::verdict::is_same_edge;
 use std::alloc::{AllocError, Global};
 use std::marker::Model;
 use thin_cons::Roles;
-use thin_form::{Design, Kind};
+use thin_form::{Kind, Netlist};
 
 /// What is known of a design once it is judged: the report, and whether an edge crosses.
 #[derive(Drop)]
@@ -69,34 +70,33 @@ fn put_heading(text: &mut Vec<u8>, top: &str) -> Result<(), AllocError>
 }
 
 /// Adds what source `n` brings: a line where its edge crosses, and a count where it is a flop.
-fn add_source(draft: &mut Draft, design: &Design, roles: &Roles, n: u32) -> Result<(), AllocError>
-    requires n_is_in { n < length design.now }
-    requires lawful { IsLawful design.now }
-    requires roles_fit { length roles.now ≡ length design.now }
+fn add_source(draft: &mut Draft, traced: &Traced, n: u32) -> Result<(), AllocError>
+    requires n_is_in { n < length traced.now.design.now.sources }
+    requires lawful { IsLawful traced.now.design.now }
     requires same_fits { draft.old.same + 1 < 2 ^ 32 }
     requires crossing_fits { draft.old.crossing + 1 < 2 ^ 32 }
-    ensures { OnOk result (AddsSource design.now roles.now (source_at design.now n) draft.old draft.new) }
+    ensures { OnOk result (AddsSource (design_of traced.now.design.now) traced.now.roles.now (source_at (design_of traced.now.design.now) n) draft.old draft.new) }
 {
-    let Kind::Register(flop) = design.kind(n) else {
+    let Kind::Register(flop) = traced.design.kind(n) else {
         return Ok(());
     };
-    if is_same_edge(design, roles, flop) {
+    if is_same_edge(flop, traced.origins[flop.data as usize]) {
         draft.same += 1;
         return Ok(());
     }
     draft.crossing += 1;
-    put_edge(&mut draft.text, design.name(n))
+    put_edge(&mut draft.text, traced.design.name(n))?;
+    Ok(())
 }
 
 /// Adds what all sources bring, in name order.
-fn add_sources(draft: &mut Draft, design: &Design, roles: &Roles) -> Result<(), AllocError>
-    requires roles_fit { length roles.now ≡ length design.now }
+fn add_sources(draft: &mut Draft, traced: &Traced) -> Result<(), AllocError>
     requires same_is_none { draft.old.same ≡ 0 }
     requires crossing_is_none { draft.old.crossing ≡ 0 }
-    ensures { OnOk result (AddsSources design.now roles.now design.now draft.old.text draft.new) }
+    ensures { OnOk result (AddsSources (design_of traced.now.design.now) traced.now.roles.now (design_of traced.now.design.now).sources draft.old.text draft.new) }
 {
-    'sources: for n in 0..design.len() {
-        add_source(draft, design, roles, n)?;
+    'sources: for n in 0..traced.design.sources() {
+        add_source(draft, traced, n)?;
     }
     Ok(())
 }
@@ -105,13 +105,14 @@ fn add_sources(draft: &mut Draft, design: &Design, roles: &Roles) -> Result<(), 
 pub fn judge(
     alloc: Global,
     top: &str,
-    design: &Design,
+    design: &Netlist,
     roles: &Roles,
 ) -> Result<Judgement, AllocError>
-    requires { length roles.now ≡ length design.now }
-    ensures report { IfOk result (λ j. j.report.items ≡ report top.now design.now roles.now) }
-    ensures crossing { IfOk result (λ j. j.crossing ≡ crosses design.now roles.now) }
+    requires { length roles.now ≡ length design.now.sources }
+    ensures report { IfOk result (λ j. j.report.items ≡ report top.now (design_of design.now) roles.now) }
+    ensures crossing { IfOk result (λ j. j.crossing ≡ crosses (design_of design.now) roles.now) }
 {
+    let traced = Traced::new(alloc, design, roles)?;
     let mut text = Vec::new(alloc);
     put_heading(&mut text, top)?;
     let mut draft = Draft {
@@ -119,7 +120,7 @@ pub fn judge(
         same: 0,
         crossing: 0,
     };
-    add_sources(&mut draft, design, roles)?;
+    add_sources(&mut draft, &traced)?;
     let Draft {
         mut text,
         same,

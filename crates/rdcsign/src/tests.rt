@@ -104,6 +104,24 @@ fn expect(
     Ok(())
 }
 
+/// The example with other logic between its flops: declarations, assigns, and what `q` takes.
+fn with_logic(
+    alloc: Global,
+    declared: &str,
+    assigned: &str,
+    data: &str,
+) -> Result<String, AllocError> {
+    format!(in alloc;
+        "module m(input ca, input cb, input ra, input rb, input d, output reg q{declared});
+  reg a;
+  {assigned}
+  always @(posedge ca or negedge ra) if (!ra) a <= 1'b0; else a <= d;
+  always @(posedge cb or negedge rb) if (!rb) q <= 1'b0; else q <= {data};
+endmodule
+"
+    )
+}
+
 const CHECK: [&str; 4] = ["check", "m", "m.rdc", "m.v"];
 
 #[test]
@@ -125,6 +143,89 @@ fn a_design_is_judged_by_its_resets(rt: HostRuntime) -> Result<(), Fail> {
         &make_case(&CHECK, CONSTRAINTS, RESET_AS_DATA),
         Status::Hazard,
         CROSSING,
+    )
+}
+
+#[test]
+fn a_hazard_passes_through_gates(rt: HostRuntime) -> Result<(), Fail> {
+    let reads = [
+        // a fold of two values would hide these
+        "a & ~a",
+        "a | ~a",
+        "(a & d) | (~a & d)",
+        // a reset in the data
+        "d & ra",
+        "~(d | ~ra)",
+        "((a))",
+    ];
+    for data in reads {
+        let source = with_logic(rt.alloc(), "", "", data)?;
+        expect(
+            &rt,
+            &make_case(&CHECK, CONSTRAINTS, &source),
+            Status::Hazard,
+            CROSSING,
+        )?;
+    }
+    let wire = with_logic(
+        rt.alloc(),
+        "",
+        "wire w; wire v; assign w = ~v; assign v = a & d;",
+        "w",
+    )?;
+    expect(
+        &rt,
+        &make_case(&CHECK, CONSTRAINTS, &wire),
+        Status::Hazard,
+        CROSSING,
+    )
+}
+
+#[test]
+fn logic_of_one_reset_is_clean(rt: HostRuntime) -> Result<(), Fail> {
+    for data in ["d", "d & ~d", "(d | q) & ~(q & d)"] {
+        // an unrelated wire, and a plain output, may read the other reset's flop
+        let source = with_logic(
+            rt.alloc(),
+            ", output y",
+            "wire w; assign w = a & ra; assign y = w;",
+            data,
+        )?;
+        expect(
+            &rt,
+            &make_case(&CHECK, CONSTRAINTS, &source),
+            Status::Clean,
+            CLEAN,
+        )?;
+    }
+    Ok(())
+}
+
+#[test]
+fn assigns_that_read_each_other_are_refused(rt: HostRuntime) -> Result<(), Fail> {
+    let source = with_logic(
+        rt.alloc(),
+        "",
+        "wire w; wire v; assign w = v; assign v = ~w;",
+        "d",
+    )?;
+    expect(
+        &rt,
+        &make_case(&CHECK, CONSTRAINTS, &source),
+        Status::NotYet,
+        "refused notyet m.v\n",
+    )?;
+    // a declared clock that clocks nothing stands in an expression
+    let source = with_logic(rt.alloc(), ", input cc", "wire w; assign w = cc;", "d")?;
+    expect(
+        &rt,
+        &make_case(
+            &CHECK,
+            "rdc 1\nclock ca\nclock cb\nclock cc\nreset ra low\nreset rb low\n",
+            &source,
+        ),
+        Status::NotYet,
+        "refused notyet m.rdc\n",
     )
 }
 

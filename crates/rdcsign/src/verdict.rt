@@ -1,37 +1,20 @@
 //! Which flops read across resets.
 
-ghost use Rattle.std.specs.Prelude.{◌≡◌, ◌<◌, length};
-ghost use Rattle.thin_form.specs.Design.{kind_at};
-ghost use Rattle.rdcsign.specs.Verdict.{is_same, is_no_reset, has_pin_of};
+ghost use Rattle.std.specs.Prelude.{◌≡◌, List};
+ghost use Rattle.thin_form.specs.Formula.{Formula};
+ghost use Rattle.thin_form.specs.Netlist.{flop_of};
+ghost use Rattle.rdcsign.specs.Origin.{allows};
 
-use thin_cons::{Role, Roles};
-use thin_form::{Design, Flop, Kind};
+use crate::origin::Origin;
+use thin_form::Flop;
 
-/// Whether a source is no declared reset.
-fn is_quiet(role: Role) -> bool
-    ensures { result ≡ is_no_reset role }
+/// Whether a flop that reads sources of this origin reads nothing that another reset may unsettle.
+pub fn is_same_edge(flop: Flop, origin: Origin) -> bool
+    ensures { (known : List Formula) → result ≡ allows (flop_of known flop) origin }
 {
-    match role {
-        Role::Free | Role::Clock => true,
-        Role::Reset(_) => false,
-    }
-}
-
-/// Whether two flops have one pin: the same port, active at the same level.
-fn have_one_pin(f: Flop, g: Flop) -> bool
-    ensures { result ≡ has_pin_of f g }
-{
-    f.pin == g.pin && f.high == g.high
-}
-
-/// Whether the flop reads nothing that another reset may unsettle.
-pub fn is_same_edge(design: &Design, roles: &Roles, flop: Flop) -> bool
-    requires data_is_in { flop.data < length design.now }
-    requires roles_fit { length roles.now ≡ length design.now }
-    ensures { result ≡ is_same design.now roles.now flop }
-{
-    match design.kind(flop.data) {
-        Kind::Input => is_quiet(roles.role(flop.data)),
-        Kind::Register(other) => have_one_pin(flop, other),
+    match origin {
+        Origin::Ports => true,
+        Origin::Flops(pin, high) => flop.pin == pin && flop.high == high,
+        Origin::Mixed => false,
     }
 }

@@ -1,4 +1,5 @@
 -- The lemmas.
+pub mod NetLemmas
 pub mod Declared
 pub mod FormsLemmas
 pub mod LinesLemmas

@@ -10,8 +10,7 @@ use Rattle.std.proofs.lemmas.Cmp.{tied_itself}
 use Rattle.std.proofs.lemmas.List.{take-append-drop, map-append, drop_more, length-map, length-set, get_or-map, get_or-set_same, get_or-set_other, ext_get_or}
 use Rattle.std.proofs.lemmas.Map.Keys.{Less-from_sorted}
 use Rattle.std.proofs.lemmas.Slice.Eq.{bytes_eq-Decides}
-use Rattle.thin_form.specs.Design.{Source, IsLawful, names, name_at}
-use Rattle.thin_form.specs.declared.kind.Kind.TheVariants.{Input}
+use Rattle.thin_form.specs.Design.{Input, Source, Design, IsAscending, names, name_at}
 use Rattle.thin_cons.specs.Forms.{Declaration, Clock, Reset}
 use Rattle.thin_cons.specs.Roles.{port_of, role_of, role_in, role_at, IsInput, AreOnce, AreRoles}
 use Rattle.thin_cons.specs.Step.{IsFreeInput}
@@ -20,15 +19,15 @@ use Rattle.thin_cons.specs.declared.role.Role.TheVariants as roles
 
 -- ---- names
 
-apart : (design : List Source) (n m : ℕ) → IsLawful design → n < m → m < length design → name_at design n ≡ name_at design m → ⊥
+apart : (design : Design) (n m : ℕ) → IsAscending (names design) → n < m → m < length design.sources → name_at design n ≡ name_at design m → ⊥
 apart design n m lawful lt within same =
-    let less = Less-from_sorted (slice_cmp nat_cmp) (names design) n m [] lawful.ascending lt (omega (arith, length-map design (λ (s : Source). s.name))) in
+    let less = Less-from_sorted (slice_cmp nat_cmp) (names design) n m [] lawful lt (omega (arith, length-map design.sources (λ (s : Source). s.name))) in
     let here = subst (λ (x : List ℕ). slice_cmp nat_cmp x (name_at design m) ≡ Less) same less in
     let tied = tied_itself nat_list_cmp_total (name_at design m) in
     absurd cc
 
 -- a name is one source's
-pub one_place : (design : List Source) (n m : ℕ) → IsLawful design → n < length design → m < length design → name_at design n ≡ name_at design m → n ≡ m
+pub one_place : (design : Design) (n m : ℕ) → IsAscending (names design) → n < length design.sources → m < length design.sources → name_at design n ≡ name_at design m → n ≡ m
 one_place design n m lawful within within' same =
     elim (cases_order n m) [
       | inl e ↦ e
@@ -42,9 +41,9 @@ nothing : Source
 nothing = record { name = []; kind = Input }
 
 -- a function of each name, at a source
-at_name : (f : List ℕ → Role) (design : List Source) (n : ℕ) → n < length design → role_at (map (λ s. f s.name) design) n ≡ f (name_at design n)
+at_name : (f : List ℕ → Role) (design : Design) (n : ℕ) → n < length design.sources → role_at (map (λ s. f s.name) design.sources) n ≡ f (name_at design n)
 at_name f design n within =
-    get_or-map (λ (s : Source). f s.name) design n nothing roles.Free within ∙ ap f (sym (get_or-map (λ (s : Source). s.name) design n nothing [] within))
+    get_or-map (λ (s : Source). f s.name) design.sources n nothing roles.Free within ∙ ap f (sym (get_or-map (λ (s : Source). s.name) design.sources n nothing [] within))
 
 -- ---- declarations
 
@@ -107,19 +106,19 @@ role_in_push_other (e ∷ ds) d name differs =
 
 -- ---- roles
 
-all_free : (design : List Source) → replicate (length design) roles.Free ≡ map (λ s. role_in [] s.name) design
+all_free : (sources : List Source) → replicate (length sources) roles.Free ≡ map (λ s. role_in [] s.name) sources
 all_free [] = refl
-all_free (s ∷ design) = ap (λ (list : List Role). roles.Free ∷ list) (all_free design)
+all_free (s ∷ sources) = ap (λ (list : List Role). roles.Free ∷ list) (all_free sources)
 
-pub no_roles : (design : List Source) → AreRoles design [] (replicate (length design) roles.Free)
-no_roles design = record { inputs = tt; once = tt; roles = all_free design }
+pub no_roles : (design : Design) → AreRoles design [] (replicate (length design.sources) roles.Free)
+no_roles design = record { inputs = tt; once = tt; roles = all_free design.sources }
 
 -- the role at each place, after one more
-at_place : (design : List Source) (ds : List Declaration) (list : List Role) (d : Declaration) (n k : ℕ) → IsLawful design → AreRoles design ds list → IsFreeInput design list (port_of d) n → role_in ds (port_of d) ≡ roles.Free → k < length design
-    → role_at (set list n (role_of d)) k ≡ role_at (map (λ s. role_in (ds ++ d ∷ []) s.name) design) k
+at_place : (design : Design) (ds : List Declaration) (list : List Role) (d : Declaration) (n k : ℕ) → IsAscending (names design) → AreRoles design ds list → IsFreeInput design list (port_of d) n → role_in ds (port_of d) ≡ roles.Free → k < length design.sources
+    → role_at (set list n (role_of d)) k ≡ role_at (map (λ s. role_in (ds ++ d ∷ []) s.name) design.sources) k
 at_place design ds list d n k lawful before port free within =
     let there = at_name (role_in (ds ++ d ∷ [])) design k within in
-    let len : length list ≡ length design = ap length before.roles ∙ length-map design (λ s. role_in ds s.name) in
+    let len : length list ≡ length design.sources = ap length before.roles ∙ length-map design.sources (λ s. role_in ds s.name) in
     elim (cases_eq k n) [
       | inl e ↦
           let here : role_at (set list n (role_of d)) k ≡ role_of d = rw e (get_or-set_same list n (role_of d) roles.Free (omega (arith, port.within))) in
@@ -130,22 +129,22 @@ at_place design ds list d n k lawful before port free within =
           get_or-set_other list n k (role_of d) roles.Free differs ∙ ap (λ (r : List Role). role_at r k) before.roles ∙ at_name (role_in ds) design k within ∙ sym (there ∙ role_in_push_other ds d (name_at design k) other)
     ]
 
-pub roles_push : (design : List Source) (ds : List Declaration) (list : List Role) (d : Declaration) (n : ℕ) → IsLawful design → AreRoles design ds list → IsFreeInput design list (port_of d) n → AreRoles design (ds ++ d ∷ []) (set list n (role_of d))
+pub roles_push : (design : Design) (ds : List Declaration) (list : List Role) (d : Declaration) (n : ℕ) → IsAscending (names design) → AreRoles design ds list → IsFreeInput design list (port_of d) n → AreRoles design (ds ++ d ∷ []) (set list n (role_of d))
 roles_push design ds list d n lawful before port =
     let free : role_in ds (port_of d) ≡ roles.Free = ap (role_in ds) (sym port.name) ∙ sym (at_name (role_in ds) design n port.within) ∙ ap (λ (r : List Role). role_at r n) (sym before.roles) ∙ port.free in
     let f = role_in (ds ++ d ∷ []) in
-    let len : length list ≡ length design = ap length before.roles ∙ length-map design (λ s. role_in ds s.name) in
-    let len_set : length (set list n (role_of d)) ≡ length design = length-set list n (role_of d) ∙ len in
-    let same : (k : ℕ) → k < length (set list n (role_of d)) → role_at (set list n (role_of d)) k ≡ role_at (map (λ (s : Source). f s.name) design) k = λ k lt.
-    let within : k < length design = omega arith in
+    let len : length list ≡ length design.sources = ap length before.roles ∙ length-map design.sources (λ s. role_in ds s.name) in
+    let len_set : length (set list n (role_of d)) ≡ length design.sources = length-set list n (role_of d) ∙ len in
+    let same : (k : ℕ) → k < length (set list n (role_of d)) → role_at (set list n (role_of d)) k ≡ role_at (map (λ (s : Source). f s.name) design.sources) k = λ k lt.
+    let within : k < length design.sources = omega arith in
     at_place design ds list d n k lawful before port free within in
     record {
       inputs = all_push (λ e. IsInput design (port_of e)) ds d before.inputs (n, port.within, port.name, port.input);
       once = once_push ds d before.once (no_others ds (port_of d) free);
-      roles = ext_get_or roles.Free (set list n (role_of d)) (map (λ (s : Source). f s.name) design) (len_set ∙ sym (length-map design (λ (s : Source). f s.name))) same;
+      roles = ext_get_or roles.Free (set list n (role_of d)) (map (λ (s : Source). f s.name) design.sources) (len_set ∙ sym (length-map design.sources (λ (s : Source). f s.name))) same;
     }
 
-pub no_roles_past : (design : List Source) (ds : List Declaration) (list : List Role) (d : Declaration) (rest : List Declaration) → AreRoles design ds list → ((n : ℕ) → IsFreeInput design list (port_of d) n → ⊥)
+pub no_roles_past : (design : Design) (ds : List Declaration) (list : List Role) (d : Declaration) (rest : List Declaration) → AreRoles design ds list → ((n : ℕ) → IsFreeInput design list (port_of d) n → ⊥)
     → (other : List Role) → AreRoles design (ds ++ d ∷ rest) other → ⊥
 no_roles_past design ds list d rest before refused other whole =
     let input = all_at (λ e. IsInput design (port_of e)) ds d rest whole.inputs in
@@ -153,7 +152,7 @@ no_roles_past design ds list d rest before refused other whole =
     let free : role_at list n ≡ roles.Free = ap (λ (r : List Role). role_at r n) before.roles ∙ at_name (role_in ds) design n input.1 ∙ ap (role_in ds) input.2 ∙ is_free ds (port_of d) (once_at ds d rest whole.once) in
     refused n (record { within = input.1; name = input.2; input = input.3; free = free })
 
-pub one_roles : (design : List Source) (ds : List Declaration) (first second : List Role) → AreRoles design ds first → AreRoles design ds second → first ≡ second
+pub one_roles : (design : Design) (ds : List Declaration) (first second : List Role) → AreRoles design ds first → AreRoles design ds second → first ≡ second
 one_roles design ds first second a b = a.roles ∙ sym b.roles
 
 -- a list in three parts

@@ -5,15 +5,15 @@
 --     IsInput design name       the name is an input port's
 --     AreOnce ds                no port is declared twice
 --     AreRoles design ds roles  the declarations are of input ports, each once, and give the sources these roles
---     IsMet roles f             the flop's clock, pin and data have the roles that they need
+--     reads_clock roles f       a clock stands in a formula
+--     IsMet roles f             the flop's clock, pin and formula have the roles that they need
 --     IsMetAt design roles n    source n is no flop, or is met
---     AreMet design roles       each flop is met
+--     AreMet design roles       each flop and each wire is met
 --     Declares design bytes roles      the bytes give the sources of the design these roles
-use Rattle.std.specs.Prelude.{◌≡◌, ◌≢◌, ℕ, ◌<◌, if◌then◌else◌, List, [], ◌∷◌, map, length, slice_index_or, bytes_eq}
-use Rattle.std.specs.List.{AllByRecursion}
-use Rattle.thin_form.specs.Design.{Source, name_at, kind_at}
-use Rattle.thin_form.specs.declared.kind.Kind.TheVariants.{Input, Register}
-use Rattle.thin_form.specs.declared.kind.Flop.{Flop}
+use Rattle.std.specs.Prelude.{◌≡◌, ◌≢◌, ℕ, ◌<◌, Bool, true, false, if◌then◌else◌, List, [], ◌∷◌, map, length, slice_index_or, bytes_eq}
+use Rattle.std.specs.List.{AllByRecursion, list_any}
+use Rattle.thin_form.specs.Formula.{Formula, sources_in}
+use Rattle.thin_form.specs.Design.{Flop, Input, Register, Design, name_at, kind_at}
 use Rattle.thin_cons.specs.Forms.{Declaration, Clock, Reset, IsFile}
 use Rattle.thin_cons.specs.declared.role.Role.{Role}
 use Rattle.thin_cons.specs.declared.role.Role.TheVariants as roles
@@ -38,8 +38,8 @@ abbrev pub role_at : List Role → ℕ → Role
 role_at list n = slice_index_or list n roles.Free
 
 -- some input port of the design has the name
-abbrev pub IsInput : List Source → List ℕ → Type 0
-IsInput design name = (n : ℕ) × (n < length design) × (name_at design n ≡ name) × (kind_at design n ≡ Input)
+abbrev pub IsInput : Design → List ℕ → Type 0
+IsInput design name = (n : ℕ) × (n < length design.sources) × (name_at design n ≡ name) × (kind_at design n ≡ Input)
 
 -- no port is declared twice
 abbrev pub AreOnce : List Declaration → Type 0
@@ -47,28 +47,47 @@ AreOnce [] = Unit {0}
 AreOnce (d ∷ declarations) = AllByRecursion (λ other. port_of other ≢ port_of d) declarations × AreOnce declarations
 
 -- the declarations are of input ports, each declared once, and the roles of the sources are theirs
-pub record AreRoles (design : List Source) (declarations : List Declaration) (list : List Role) : Type 0 where
+pub record AreRoles (design : Design) (declarations : List Declaration) (list : List Role) : Type 0 where
   pub inputs : AllByRecursion (λ d. IsInput design (port_of d)) declarations
   pub once : AreOnce declarations
-  pub roles : list ≡ map (λ s. role_in declarations s.name) design
+  pub roles : list ≡ map (λ s. role_in declarations s.name) design.sources
 
--- the flop's clock is a clock, its pin a reset of its level, and its data no clock
+-- the role is a clock's
+abbrev pub is_clock : Role → Bool
+is_clock roles.Free = false
+is_clock roles.Clock = true
+is_clock (roles.Reset high) = false
+
+-- a clock stands in the formula
+abbrev pub reads_clock : List Role → Formula → Bool
+reads_clock list f = list_any (λ n. is_clock (role_at list n)) (sources_in f)
+
+-- the flop's clock is a clock, its pin a reset of its level, and no clock stands in what it takes
 pub record IsMet (list : List Role) (f : Flop) : Type 0 where
   pub clock : role_at list f.clock ≡ roles.Clock
   pub pin : role_at list f.pin ≡ roles.Reset f.high
-  pub «data» : role_at list f.data ≢ roles.Clock
+  pub next : reads_clock list f.next ≡ false
 
 -- source n is met, where it is a flop
-abbrev pub IsMetAt : List Source → List Role → ℕ → Type 0
+abbrev pub IsMetAt : Design → List Role → ℕ → Type 0
 IsMetAt design list n = (f : Flop) → kind_at design n ≡ Register f → IsMet list f
 
 -- each flop of the design is met
-abbrev pub AreMet : List Source → List Role → Type 0
-AreMet design list = (n : ℕ) → n < length design → IsMetAt design list n
+abbrev pub AreFlopsMet : Design → List Role → Type 0
+AreFlopsMet design list = (n : ℕ) → n < length design.sources → IsMetAt design list n
 
--- the bytes are a file of declarations that give the sources of the design these roles and meet its flops
-pub record Declares (design : List Source) (bytes : List ℕ) (list : List Role) : Type 0 where
+-- no clock stands in a wire's formula
+abbrev pub AreWiresMet : Design → List Role → Type 0
+AreWiresMet design list = AllByRecursion (λ w. reads_clock list w.value ≡ false) design.wires
+
+-- no clock is read or tested, and each flop's clock and pin have their roles
+pub record AreMet (design : Design) (list : List Role) : Type 0 where
+  pub flops : AreFlopsMet design list
+  pub wires : AreWiresMet design list
+
+-- the bytes are a file of declarations that give the sources of the design these roles and meet its flops and wires
+pub record Declares (design : Design) (bytes : List ℕ) (list : List Role) : Type 0 where
   pub declarations : List Declaration
   pub file : IsFile bytes declarations
   pub roles : AreRoles design declarations list
-  pub flops : AreMet design list
+  pub met : AreMet design list

@@ -1,7 +1,7 @@
 //! Laws of the definitions.
 
 ghost use Rattle.std.specs.Prelude.{◌≡◌, ℕ, List};
-ghost use Rattle.thin_form.specs.Design.{Source};
+ghost use Rattle.thin_form.specs.Design.{Design};
 ghost use Rattle.thin_cons.specs.Forms.{Declaration, IsFile};
 ghost use Rattle.thin_cons.specs.Roles.{Declares};
 ghost use Rattle.thin_cons.specs.declared.role.Role.{Role};
@@ -13,5 +13,5 @@ pub fn one_file()
 
 /// The bytes give a design's sources one list of roles at most.
 pub fn one_declaration()
-    ensures { (design : List Source) (bytes : List ℕ) (first second : List Role) → Declares design bytes first → Declares design bytes second → first ≡ second }
+    ensures { (design : Design) (bytes : List ℕ) (first second : List Role) → Declares design bytes first → Declares design bytes second → first ≡ second }
 {}

@@ -3,7 +3,7 @@
 use super::*;
 use std::alloc::Global;
 use std::test::Fail;
-use thin_form::{Design, read};
+use thin_form::{Netlist, read};
 
 const DESIGN: &[u8] = b"module m(input ca, input cb, input ra, input rb, input d, output reg q);
   reg a;
@@ -65,7 +65,7 @@ fn other_files_have_no_lines(rt: HostRuntime) {
 }
 
 /// Whether the file declares nothing of the design.
-fn is_refused(alloc: Global, design: &Design, file: &[u8]) -> bool {
+fn is_refused(alloc: Global, design: &Netlist, file: &[u8]) -> bool {
     matches!(declare(alloc, design, file), Err(ConsFault::NotOfForm))
 }
 
@@ -84,7 +84,7 @@ fn each_source_has_its_role(rt: HostRuntime) -> Result<(), Fail> {
         Role::Reset(false),
         Role::Reset(false),
     ];
-    assert_eq!(rt; design.len(), 7);
+    assert_eq!(rt; design.sources(), 7);
     for n in 0..7u32 {
         assert_eq!(rt; roles.role(n), wanted[n as usize]);
     }

@@ -1,56 +1,58 @@
--- What a design is: its sources in name order. The number of a source is its place.
---     names d, kinds d, name_at d n, kind_at d n      the names and the kinds, and those of source n
---     IsLawful d      what is true of every design
---     IsNumberOf d name answer      the number of the source with a name, or that none has it
-use Rattle.std.specs.Prelude.{◌≡◌, ◌≢◌, ℕ, ◌<◌, ◌^◌, List, [], map, length, slice_index_or, Option, Some, None}
-use Rattle.std.specs.List.{AllByRecursion}
+-- What a design is: its sources in name order, and its wires. The number of a source is its place.
+--     Flop, Kind, Source, Wire      a flop, what a source is, a source and a wire with its name
+--     Design                        all of it
+--     names d, name_at d n, kind_at d n      the names of the sources, and the name and kind of source n
+--     IsAscending ns                the names ascend in byte order
+use Rattle.std.specs.Prelude.{ℕ, Bool, List, [], map, slice_index_or}
 use Rattle.std.specs.List.Sorted.{IsStrictlySortedBy}
 use Rattle.std.specs.Ordering.{nat_cmp}
 use Rattle.std.specs.Cmp.Lexicographic.{slice_cmp}
-use Rattle.thin_form.specs.Identifiers.{IsIdentifier}
-use Rattle.thin_form.specs.declared.kind.Kind.{Kind}
-use Rattle.thin_form.specs.declared.kind.Kind.TheVariants.{Input, Register}
-use Rattle.thin_form.specs.declared.kind.Flop.{Flop}
+use Rattle.thin_form.specs.Formula.{Formula}
+
+-- a flop: the source that clocks it, the source that resets it and at which level, the value that a reset gives, and what it takes at a rising edge
+pub record Flop : Type 0 where
+  pub clock : ℕ
+  pub pin : ℕ
+  pub high : Bool
+  pub reset : Bool
+  pub next : Formula
+
+-- an input port, or a register with its flop
+pub data Kind : Type 0 where
+  Input : Kind
+  Register : Flop → Kind
 
 -- a port or a register, with its name
 pub record Source : Type 0 where
   pub name : List ℕ
   pub kind : Kind
 
-abbrev pub names : List Source → List (List ℕ)
-names d = map (λ s. s.name) d
+-- a wire, with what it computes
+pub record Wire : Type 0 where
+  pub name : List ℕ
+  pub value : Formula
 
-abbrev pub kinds : List Source → List Kind
-kinds d = map (λ s. s.kind) d
+-- a design: its sources and its wires
+pub record Design : Type 0 where
+  pub sources : List Source
+  pub wires : List Wire
+
+-- the names of the sources
+abbrev pub names : Design → List (List ℕ)
+names d = map (λ s. s.name) d.sources
+
+-- the kinds of the sources
+abbrev pub kinds : Design → List Kind
+kinds d = map (λ s. s.kind) d.sources
 
 -- the name of source n
-abbrev pub name_at : List Source → ℕ → List ℕ
+abbrev pub name_at : Design → ℕ → List ℕ
 name_at d n = slice_index_or (names d) n []
 
 -- what source n is
-abbrev pub kind_at : List Source → ℕ → Kind
+abbrev pub kind_at : Design → ℕ → Kind
 kind_at d n = slice_index_or (kinds d) n Input
-
--- the flop's numbers are sources of the design; its clock and its pin are inputs
-pub record IsFlopOf (d : List Source) (f : Flop) : Type 0 where
-  pub clock : f.clock < length d
-  pub pin : f.pin < length d
-  pub «data» : f.data < length d
-  pub clock_is_input : kind_at d f.clock ≡ Input
-  pub pin_is_input : kind_at d f.pin ≡ Input
 
 -- the names ascend in byte order
 abbrev pub IsAscending : List (List ℕ) → Type 0
 IsAscending ns = IsStrictlySortedBy (slice_cmp nat_cmp) ns
-
--- what is true of every design
-pub record IsLawful (d : List Source) : Type 0 where
-  pub few : length d < 2 ^ 32
-  pub ascending : IsAscending (names d)
-  pub identifiers : AllByRecursion IsIdentifier (names d)
-  pub flops : (n : ℕ) (f : Flop) → kind_at d n ≡ Register f → IsFlopOf d f
-
--- the number of the source with a name, or that none has it
-abbrev pub IsNumberOf : List Source → List ℕ → Option ℕ → Type 0
-IsNumberOf d name (Some n) = (n < length d) × (name_at d n ≡ name)
-IsNumberOf d name None = (n : ℕ) → n < length d → name_at d n ≢ name

@@ -1,6 +1,6 @@
 //! What a source is: an input port, or a register with its flop.
 
-/// A flop with an asynchronous reset. `clock`, `pin` and `data` are numbers of sources of its design.
+/// A flop with an asynchronous reset. `clock` and `pin` are numbers of sources of its design, `data` is a node.
 #[derive(Clone, Copy, Debug, PartialEq, Eq)]
 pub struct Flop {
     /// The input port at whose rising edge the flop takes its data.
@@ -11,7 +11,7 @@ pub struct Flop {
     pub high: bool,
     /// The value that a reset gives.
     pub reset: bool,
-    /// The source that the flop reads.
+    /// The node that the flop reads.
     pub data: u32,
 }
 
@@ -22,9 +22,20 @@ pub enum Kind {
     Register(Flop),
 }
 
-/// A flop with the number of its register.
-#[derive(Clone, Copy)]
-pub(crate) struct Numbered {
-    pub(crate) register: u32,
-    pub(crate) flop: Flop,
+/// A node of a design: a source by number, or a gate over nodes before it.
+#[derive(Clone, Copy, Debug, PartialEq, Eq)]
+pub enum Node {
+    Source(u32),
+    Not(u32),
+    And(u32, u32),
+    Or(u32, u32),
+}
+
+/// A named bit of a design: a source, or a wire.
+#[derive(Clone, Copy, Debug, PartialEq, Eq)]
+pub struct Bit<'a> {
+    pub name: &'a [u8],
+    pub node: u32,
+    /// It is a wire, and no source.
+    pub wire: bool,
 }

@@ -1,29 +1,31 @@
-//! The first form of source: one module of flops with asynchronous resets and no gates.
+//! The first form of source: one module of wires, gates and flops with asynchronous resets.
 //!
 //! `read` answers the design that a text spells, and refuses exactly the texts that spell none
 //! (`specs/Source.antt`). It takes any bytes, and always returns.
-//! Reading Verilog: stands on nothing but std. The first path of the program reads its one source by it.
+//! Reading Verilog: stands on `thin_tree` for the tree. The first path of the program reads its one source by it.
 #![tactic(auto)]
 
+mod assembly;
+mod assigned;
 mod builder;
-mod bytes;
+mod controls;
 mod declarations;
-mod design;
 mod entry;
-mod fault;
-mod filling;
-mod identifier;
+mod gates;
 mod kind;
-mod lexer;
-mod numbering;
-mod parser;
+mod names;
+mod netlist;
+mod ordering;
 mod reader;
-mod tree;
+mod resolver;
+mod rules;
+mod term;
+mod wiring;
 
-pub use design::Design;
-pub use fault::FormFault;
-pub use kind::{Flop, Kind};
+pub use kind::{Bit, Flop, Kind, Node};
+pub use netlist::Netlist;
 pub use reader::{one_design, read};
+pub use thin_tree::FormFault;
 
 #[cfg(test)]
 mod tests;

@@ -1,4 +1,4 @@
-use Rattle.thin_form.proofs.Readers.{one_design_is}
+use Rattle.thin_form.proofs.OneDesign.{one_design_is}
 use Rattle.rdcsign.specs.Request.{texts}
 use Rattle.rdcsign.specs.Outcome.{Judged, refused}
 use Rattle.rdcsign.proofs.EndsLemmas.{cause_of_call}

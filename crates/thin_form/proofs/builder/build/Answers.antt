@@ -1,62 +1,73 @@
-use Rattle.std.proofs.Common.{◌≡◌, List, length, sym, ap, subst, ◌∙◌, rules, arith}
-use Rattle.thin_form.specs.declared.tree.Item.{Item}
-use Rattle.thin_form.specs.Tree as tree
-use Rattle.thin_form.specs.Design.{Source, IsLawful}
-use Rattle.thin_form.specs.Entries.{sources}
-use Rattle.thin_form.specs.Identifiers.{IsIdentifier}
-use Rattle.thin_form.specs.Meaning.{sources_of, IsDesignOf}
-use Rattle.thin_form.specs.Rules.{names_of, processes, processes_in, KeepsRules}
-use Rattle.thin_form.specs.Written.{a_module, all_declared, all_processes, all_items}
-use Rattle.thin_form.proofs.Faults.{passed_on}
-use Rattle.thin_form.proofs.Orders.{length-names}
-use Rattle.thin_form.proofs.Moved.{few_names, tree_is, form_is, design_is, lawful, refused}
+use Rattle.std.proofs.Common.{◌≡◌, List, refl, sym, subst, arith, rules}
+use Rattle.std.specs.List.Sorted.{IsPermutation}
+use Rattle.std.proofs.lemmas.List.{length-map}
+use Rattle.thin_tree.specs.Grammar.{declared}
+use Rattle.thin_tree.specs.Written.{a_declared, a_module, all_declared, all_items}
+use Rattle.thin_tree.specs.declared.tree.Declared.{Declared}
+use Rattle.thin_tree.specs.declared.tree.Item.{Item}
+use Rattle.thin_form.specs.declared.assigned.Assigned.{Assigned}
+use Rattle.thin_form.specs.declared.assigned.Clocked.{Clocked}
+use Rattle.thin_form.specs.Meaning.{IsDesignOf}
+use Rattle.thin_form.specs.Netlist.{Netlist, design_of}
+use Rattle.thin_form.specs.Order.{IsOrderOf, all_assigns, all_processes}
+use Rattle.thin_form.specs.Rules.{assignments, assignments_in, processes, processes_in, IsOfForm}
+use Rattle.thin_form.proofs.Designed.{is_design}
+use Rattle.thin_form.proofs.Moving.{form_is, form_keeps, size_is, identifiers_are}
+use Rattle.thin_form.proofs.Resolving.{ok_both}
 use Rattle.thin_form.proofs.builder.build.Goals as goal
 
 pub number-requires-clause-few : goal.number-requires-clause-few
 number-requires-clause-few c =
-    let few = few_names (a_module c.args.parsed.now) (all_declared c.in-Ok.found.items) c.in-Ok.ensures.order c.requires in
-    omega (arith, few, length-names c.in-Ok.found.items, ap length c.deref-2.ensures.value)
-
-pub returns-in-Err-number-clause-not_of_form : goal.returns-in-Err-number-clause-not_of_form
-returns-in-Err-number-clause-not_of_form c = λ fault is form.
     let m = a_module c.args.parsed.now in
-    let ds = all_declared c.in-Ok.found.items in
-    let listed : all_processes c.deref-3.result.now ≡ processes m = ap all_processes c.deref-3.ensures.value ∙ c.in_ok-processes.ensures ∙ ap (λ (its : List Item). processes_in (all_items its)) c.deref.ensures.value in
-    let ordered : all_declared c.deref-2.result.now ≡ ds = ap all_declared c.deref-2.ensures.value in
-    let rules = refused m ds c.in-Ok.ensures.order c.args.top.now form in
-    c.in-Err-number.ensures.not_of_form (passed_on _ _ fault) (subst (λ (ps : List tree.Process). KeepsRules (all_declared c.deref-2.result.now) ps) (sym listed) (subst (λ (es : List tree.Declared). KeepsRules es (processes m)) (sym ordered) rules))
+    let ds = all_declared c.deref-3.result.now in
+    let ps = all_processes c.deref-5.result.now in
+    let assigns = all_assigns c.deref-4.result.now in
+    let order = subst (λ (xs : List Declared). IsOrderOf (declared m) (all_declared xs)) (sym c.deref-3.ensures.value) c.in-Ok.ensures.order in
+    let same_assigns = subst (λ (xs : List Assigned). IsPermutation (assignments m) (all_assigns xs)) (sym c.deref-4.ensures.value) (subst (λ (xs : List Item). IsPermutation (assignments_in (all_items xs)) (all_assigns c.in_ok-assigns.assigns.items)) c.deref.ensures.value c.in_ok-assigns.ensures.same) in
+    let same_ps = subst (λ (xs : List Clocked). IsPermutation (processes m) (all_processes xs)) (sym c.deref-5.ensures.value) (subst (λ (xs : List Item). IsPermutation (processes_in (all_items xs)) (all_processes c.in_ok-processes.processes.items)) c.deref-2.ensures.value c.in_ok-processes.ensures.same) in
+    omega (arith, c.requires.size, size_is m ds ps assigns order.same same_ps same_assigns, length-map c.deref-3.result.now a_declared)
 
-pub invariant_of-result : goal.invariant_of-result
-invariant_of-result c =
+pub number-requires-clause-identifiers : goal.number-requires-clause-identifiers
+number-requires-clause-identifiers c =
     let m = a_module c.args.parsed.now in
-    let ds = all_declared c.in-Ok.found.items in
-    let listed : all_processes c.deref-3.result.now ≡ processes m = ap all_processes c.deref-3.ensures.value ∙ c.in_ok-processes.ensures ∙ ap (λ (its : List Item). processes_in (all_items its)) c.deref.ensures.value in
-    let ordered : all_declared c.deref-2.result.now ≡ ds = ap all_declared c.deref-2.ensures.value in
-    let rules : KeepsRules ds (processes m) = subst (λ (es : List tree.Declared). KeepsRules es (processes m)) ordered (subst (λ (ps : List tree.Process). KeepsRules (all_declared c.deref-2.result.now) ps) listed c.in-Ok-number.ensures.rules) in
-    let made : sources c.in-Ok-number.found.items ≡ sources_of (names_of ds) (processes m) = c.in-Ok-number.ensures.sources ∙ ap (λ (es : List tree.Declared). sources_of (names_of es) (all_processes c.deref-3.result.now)) ordered ∙ ap (sources_of (names_of ds)) listed in
-    subst IsLawful (sym made) (lawful m ds c.in-Ok.ensures.order c.requires c.in-Ok.ensures.names rules)
-
-pub returns-clause-tree : goal.returns-clause-tree
-returns-clause-tree c =
-    let same : c.args.parsed.now.name.now ≡ c.args.top.now = search rules in
-    let named : IsIdentifier c.args.parsed.now.name.now = rw same (sym c.if-not-identifies.ensures) in
-    tree_is (a_module c.args.parsed.now) (all_declared c.in-Ok.found.items) c.in-Ok.ensures.order named (λ e. absurd cc) c.in-Ok.ensures.names
+    let ds = all_declared c.deref-3.result.now in
+    let ps = all_processes c.deref-5.result.now in
+    let assigns = all_assigns c.deref-4.result.now in
+    let order = subst (λ (xs : List Declared). IsOrderOf (declared m) (all_declared xs)) (sym c.deref-3.ensures.value) c.in-Ok.ensures.order in
+    let same_assigns = subst (λ (xs : List Assigned). IsPermutation (assignments m) (all_assigns xs)) (sym c.deref-4.ensures.value) (subst (λ (xs : List Item). IsPermutation (assignments_in (all_items xs)) (all_assigns c.in_ok-assigns.assigns.items)) c.deref.ensures.value c.in_ok-assigns.ensures.same) in
+    let same_ps = subst (λ (xs : List Clocked). IsPermutation (processes m) (all_processes xs)) (sym c.deref-5.ensures.value) (subst (λ (xs : List Item). IsPermutation (processes_in (all_items xs)) (all_processes c.in_ok-processes.processes.items)) c.deref-2.ensures.value c.in_ok-processes.ensures.same) in
+    identifiers_are m ds c.requires.tree order.same
 
 pub returns-clause-rules : goal.returns-clause-rules
 returns-clause-rules c =
-    let same : c.args.parsed.now.name.now ≡ c.args.top.now = search rules in
     let m = a_module c.args.parsed.now in
-    let ds = all_declared c.in-Ok.found.items in
-    let listed : all_processes c.deref-3.result.now ≡ processes m = ap all_processes c.deref-3.ensures.value ∙ c.in_ok-processes.ensures ∙ ap (λ (its : List Item). processes_in (all_items its)) c.deref.ensures.value in
-    let ordered : all_declared c.deref-2.result.now ≡ ds = ap all_declared c.deref-2.ensures.value in
-    let rules : KeepsRules ds (processes m) = subst (λ (es : List tree.Declared). KeepsRules es (processes m)) ordered (subst (λ (ps : List tree.Process). KeepsRules (all_declared c.deref-2.result.now) ps) listed c.in-Ok-number.ensures.rules) in
-    form_is m ds c.in-Ok.ensures.order c.args.top.now same rules
+    let ds = all_declared c.deref-3.result.now in
+    let ps = all_processes c.deref-5.result.now in
+    let assigns = all_assigns c.deref-4.result.now in
+    let order = subst (λ (xs : List Declared). IsOrderOf (declared m) (all_declared xs)) (sym c.deref-3.ensures.value) c.in-Ok.ensures.order in
+    let same_assigns = subst (λ (xs : List Assigned). IsPermutation (assignments m) (all_assigns xs)) (sym c.deref-4.ensures.value) (subst (λ (xs : List Item). IsPermutation (assignments_in (all_items xs)) (all_assigns c.in_ok-assigns.assigns.items)) c.deref.ensures.value c.in_ok-assigns.ensures.same) in
+    let same_ps = subst (λ (xs : List Clocked). IsPermutation (processes m) (all_processes xs)) (sym c.deref-5.ensures.value) (subst (λ (xs : List Item). IsPermutation (processes_in (all_items xs)) (all_processes c.in_ok-processes.processes.items)) c.deref-2.ensures.value c.in_ok-processes.ensures.same) in
+    let named : m.name ≡ c.args.top.now = search rules in
+    ok_both _ _ (λ (d : Netlist). IsOfForm c.args.top.now m) c.number.result (λ d rules net. form_is m ds ps assigns order same_ps same_assigns c.args.top.now named rules) c.number.ensures.rules c.number.ensures.net
 
 pub returns-clause-design : goal.returns-clause-design
 returns-clause-design c =
     let m = a_module c.args.parsed.now in
-    let ds = all_declared c.in-Ok.found.items in
-    let listed : all_processes c.deref-3.result.now ≡ processes m = ap all_processes c.deref-3.ensures.value ∙ c.in_ok-processes.ensures ∙ ap (λ (its : List Item). processes_in (all_items its)) c.deref.ensures.value in
-    let ordered : all_declared c.deref-2.result.now ≡ ds = ap all_declared c.deref-2.ensures.value in
-    let made : sources c.in-Ok-number.found.items ≡ sources_of (names_of ds) (processes m) = c.in-Ok-number.ensures.sources ∙ ap (λ (es : List tree.Declared). sources_of (names_of es) (all_processes c.deref-3.result.now)) ordered ∙ ap (sources_of (names_of ds)) listed in
-    subst (λ (d : List Source). IsDesignOf m d) (sym made) (design_is m ds c.in-Ok.ensures.order)
+    let ds = all_declared c.deref-3.result.now in
+    let ps = all_processes c.deref-5.result.now in
+    let assigns = all_assigns c.deref-4.result.now in
+    let order = subst (λ (xs : List Declared). IsOrderOf (declared m) (all_declared xs)) (sym c.deref-3.ensures.value) c.in-Ok.ensures.order in
+    let same_assigns = subst (λ (xs : List Assigned). IsPermutation (assignments m) (all_assigns xs)) (sym c.deref-4.ensures.value) (subst (λ (xs : List Item). IsPermutation (assignments_in (all_items xs)) (all_assigns c.in_ok-assigns.assigns.items)) c.deref.ensures.value c.in_ok-assigns.ensures.same) in
+    let same_ps = subst (λ (xs : List Clocked). IsPermutation (processes m) (all_processes xs)) (sym c.deref-5.ensures.value) (subst (λ (xs : List Item). IsPermutation (processes_in (all_items xs)) (all_processes c.in_ok-processes.processes.items)) c.deref-2.ensures.value c.in_ok-processes.ensures.same) in
+    ok_both _ _ (λ (d : Netlist). IsDesignOf m (design_of d)) c.number.result (λ d rules net. is_design ds (declared m) ps (processes m) assigns (assignments m) d net order.ascending order.same same_ps same_assigns m refl refl refl) c.number.ensures.rules c.number.ensures.net
+
+pub returns-clause-not_of_form : goal.returns-clause-not_of_form
+returns-clause-not_of_form c = λ fault form.
+    let m = a_module c.args.parsed.now in
+    let ds = all_declared c.deref-3.result.now in
+    let ps = all_processes c.deref-5.result.now in
+    let assigns = all_assigns c.deref-4.result.now in
+    let order = subst (λ (xs : List Declared). IsOrderOf (declared m) (all_declared xs)) (sym c.deref-3.ensures.value) c.in-Ok.ensures.order in
+    let same_assigns = subst (λ (xs : List Assigned). IsPermutation (assignments m) (all_assigns xs)) (sym c.deref-4.ensures.value) (subst (λ (xs : List Item). IsPermutation (assignments_in (all_items xs)) (all_assigns c.in_ok-assigns.assigns.items)) c.deref.ensures.value c.in_ok-assigns.ensures.same) in
+    let same_ps = subst (λ (xs : List Clocked). IsPermutation (processes m) (all_processes xs)) (sym c.deref-5.ensures.value) (subst (λ (xs : List Item). IsPermutation (processes_in (all_items xs)) (all_processes c.in_ok-processes.processes.items)) c.deref-2.ensures.value c.in_ok-processes.ensures.same) in
+    c.number.ensures.not_of_form fault (form_keeps m ds ps assigns order same_ps same_assigns c.args.top.now form)

@@ -1,4 +1,5 @@
-use Rattle.thin_form.proofs.Readers.{one_design_is}
+-- The law is the lemma.
+use Rattle.thin_form.proofs.OneDesign.{one_design_is}
 use Rattle.thin_form.proofs.reader.one_design.Goals as goal
 
 pub returns : goal.returns

@@ -1,7 +1,0 @@
--- The sources so far are met.
-use Rattle.std.proofs.Common.{ℕ, ◌<◌}
-use Rattle.thin_cons.specs.Roles.{IsMetAt}
-use Rattle.thin_cons.proofs.judge.are_met.Given as goal
-
-abbrev pub invariant-loop-n : goal.invariant-loop-n
-invariant-loop-n l = (k : ℕ) → k < l.n → IsMetAt l.design l.roles k

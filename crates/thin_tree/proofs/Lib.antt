@@ -1,0 +1,15 @@
+pub mod Fronts
+pub mod Texts
+pub mod Productions
+pub mod Again
+pub mod Chains
+pub mod Levels
+pub mod Spelled
+pub mod Reread
+pub mod Pushed
+pub mod Runs
+pub mod Readings
+pub mod Parts
+pub mod Sizes
+pub mod Faults
+pub mod Found

@@ -1,0 +1,12 @@
+pub mod Tokens
+pub mod Identifiers
+pub mod Tree
+pub mod Postfix
+pub mod Spelling
+pub mod Grammar
+pub mod Source
+pub mod Written
+pub mod Lengths
+pub mod Reading
+pub mod Operands
+pub mod Runs
