@@ -2,7 +2,7 @@
 
 ghost use Rattle.std.specs.Prelude.{◌≡◌, ◌↔◌, IsTrue};
 
-/// A signal's value at one moment.
+/// A signal's value at one moment. Gates look at both inputs before they choose, so that a pass over a net has no jump to guess.
 #[derive(Clone, Copy, Debug, PartialEq, Eq)]
 pub enum Tern {
     Zero,
@@ -29,10 +29,12 @@ impl Tern {
     pub fn and(self, other: Tern) -> Tern
         ensures { result ≡ and_of self other }
     {
-        match (self, other) {
-            (Tern::Zero, _) | (_, Tern::Zero) => Tern::Zero,
-            (Tern::One, Tern::One) => Tern::One,
-            (Tern::Unsettled, _) | (_, Tern::Unsettled) => Tern::Unsettled,
+        if (self == Tern::Zero) | (other == Tern::Zero) {
+            Tern::Zero
+        } else if (self == Tern::One) & (other == Tern::One) {
+            Tern::One
+        } else {
+            Tern::Unsettled
         }
     }
 
@@ -40,10 +42,12 @@ impl Tern {
     pub fn or(self, other: Tern) -> Tern
         ensures { result ≡ or_of self other }
     {
-        match (self, other) {
-            (Tern::One, _) | (_, Tern::One) => Tern::One,
-            (Tern::Zero, Tern::Zero) => Tern::Zero,
-            (Tern::Unsettled, _) | (_, Tern::Unsettled) => Tern::Unsettled,
+        if (self == Tern::One) | (other == Tern::One) {
+            Tern::One
+        } else if (self == Tern::Zero) & (other == Tern::Zero) {
+            Tern::Zero
+        } else {
+            Tern::Unsettled
         }
     }
 
@@ -51,10 +55,12 @@ impl Tern {
     pub fn xor(self, other: Tern) -> Tern
         ensures { result ≡ xor_of self other }
     {
-        match self {
-            Tern::Zero => other,
-            Tern::One => other.not(),
-            Tern::Unsettled => Tern::Unsettled,
+        if (self == Tern::Unsettled) | (other == Tern::Unsettled) {
+            Tern::Unsettled
+        } else if self == other {
+            Tern::Zero
+        } else {
+            Tern::One
         }
     }
 
