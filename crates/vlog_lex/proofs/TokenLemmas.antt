@@ -1,5 +1,5 @@
 -- A text has one list of tokens, and none where it is stuck.
-use Rattle.std.proofs.Common.{◌≡◌, ℕ, ◌+◌, ◌<◌, ◌≤◌, Bool, true, false, List, [], ◌∷◌, ◌++◌, length, drop, refl, sym, ap, subst, ◌∙◌, append_assoc, append-nil, arith, ⊎_elim}
+use Rattle.std.proofs.Common.{◌≡◌, ℕ, ◌+◌, ◌<◌, ◌≤◌, Bool, true, false, List, [], ◌∷◌, ◌++◌, length, drop, refl, sym, ap, subst, ◌∙◌, append_assoc, append-nil, length-append, arith, ⊎_elim}
 use Rattle.std.specs.Prelude.{◌⊎◌, MatchBool, Result, Ok, Err, IfOk, IfErr, MatchResult}
 use Rattle.rdc_outside.specs.declared.source.Place.{Place}
 use Rattle.vlog_lex.specs.declared.fault.LexFault.{LexFault}
@@ -137,3 +137,12 @@ within_more at count p ts new size some pushed within =
     let whole : AreWithin (at + len_of p) (ts ++ tokens_of p at) = pieces_within at p ts some within in
     let moved : AreWithin (at + len_of p) new = subst (λ (us : List Token). AreWithin (at + len_of p) us) (sym pushed) whole in
     subst (λ (n : ℕ). AreWithin (at + n) new) (sym size) moved
+
+-- a piece has no more tokens than bytes
+tokens_few : (p : Piece) (at : ℕ) → 0 < len_of p → length (tokens_of p at) ≤ len_of p
+tokens_few (Gap n) at some = omega arith
+tokens_few (One kind n) at some = omega (arith, some)
+tokens_few OpenMarks at some = omega arith
+
+pub few_more : (at count : ℕ) (p : Piece) (ts new : List Token) → count ≡ len_of p → 0 < len_of p → new ≡ ts ++ tokens_of p at → length ts ≤ at → length new ≤ at + count
+few_more at count p ts new size some pushed few = omega (arith, size, ap length pushed, length-append ts (tokens_of p at), tokens_few p at some, few)

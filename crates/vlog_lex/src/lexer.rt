@@ -105,6 +105,7 @@ fn scan(alloc: Global, bytes: &[u8], places: &[Place]) -> Result<Vec<Token>, Lex
     requires { length places.now ≡ length bytes.now + 1 }
     ensures ok { IfOk result (λ v. AreTokens 0 bytes.now v.items) }
     ensures within { IfOk result (λ v. AreWithin (length bytes.now) v.items) }
+    ensures few { IfOk result (λ v. length v.items ≤ length bytes.now) }
     ensures err { IfErr result (IsFault bytes.now places.now) }
 {
     let mut tokens = Vec::new(alloc);
@@ -133,9 +134,10 @@ fn scan(alloc: Global, bytes: &[u8], places: &[Place]) -> Result<Vec<Token>, Lex
 pub fn lex(alloc: Global, text: &Text) -> Result<Vec<Token>, LexFault>
     requires places { length text.now.places ≡ length text.now.bytes + 1 }
 
-    // The tokens are the text's, and each is a part of it.
+    // The tokens are the text's, each is a part of it, and there are no more of them than bytes.
     ensures value { IfOk result (λ v. AreTokens 0 text.now.bytes v.items) }
     ensures within { IfOk result (λ v. AreWithin (length text.now.bytes) v.items) }
+    ensures few { IfOk result (λ v. length v.items ≤ length text.now.bytes) }
 
     // A text that has tokens is refused for want of memory alone, and another for a cause that stands at the place.
     ensures complete { (ts : List Token) → AreTokens 0 text.now.bytes ts → MatchResult result (λ v. v.items ≡ ts) (λ fault. fault ≡ Memory) }

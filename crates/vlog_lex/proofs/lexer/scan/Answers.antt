@@ -4,7 +4,7 @@ use Rattle.std.proofs.Common.{◌+◌, ℕ, length, refl, sym, ap, ◌∙◌, ar
 use Rattle.std.proofs.lemmas.Bool.{eqb-true}
 use Rattle.std.proofs.lemmas.List.{nil_from_length}
 use Rattle.vlog_lex.specs.Tokens.{here}
-use Rattle.vlog_lex.proofs.TokenLemmas.{tokens_more, stuck_more, tokens_end, within_more}
+use Rattle.vlog_lex.proofs.TokenLemmas.{tokens_more, stuck_more, tokens_end, within_more, few_more}
 use Rattle.vlog_lex.proofs.lexer.scan.Goals as goal
 
 pub returns-in-Err-clause-err : goal.returns-in-Err-clause-err
@@ -22,6 +22,7 @@ pieces-preserved c = record {
   sound = tokens_more c.args.bytes.now c.pieces.rest.now c.split_at.result.1.now c.pieces.at c.len-len.result c.pieces.tokens.items c.push.new.tokens.items c.in-Ok.piece c.in-Ok.ensures.ok c.len-len.ensures c.split_at.ensures.back c.in-Ok-push.ensures c.pieces.invariant.sound;
   stuck = stuck_more c.args.bytes.now c.pieces.rest.now c.split_at.result.1.now c.pieces.at c.len-len.result c.in-Ok.piece c.in-Ok.ensures.ok c.len-len.ensures c.split_at.ensures.back c.pieces.invariant.stuck;
   within = within_more c.pieces.at c.len-len.result c.in-Ok.piece c.pieces.tokens.items c.push.new.tokens.items c.len-len.ensures c.in-Ok.ensures.within.0 c.in-Ok-push.ensures c.pieces.invariant.within;
+  few = few_more c.pieces.at c.len-len.result c.in-Ok.piece c.pieces.tokens.items c.push.new.tokens.items c.len-len.ensures c.in-Ok.ensures.within.0 c.in-Ok-push.ensures c.pieces.invariant.few;
   counted = omega arith;
 }
 
