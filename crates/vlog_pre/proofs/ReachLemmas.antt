@@ -1,25 +1,26 @@
 -- How far an expansion has come, turn by turn.
-use Rattle.std.proofs.Common.{◌≡◌, ℕ, List, [], ◌++◌, Option, Some, None, Result, Ok, Err, refl, sym, ap, subst, ◌∙◌, inl, inr, ⊎_elim, append-nil, append_assoc}
+use Rattle.std.proofs.Common.{◌≡◌, ℕ, List, [], ◌++◌, map, Option, Result, Ok, Err, refl, sym, ap, subst, ◌∙◌, append-nil, append_assoc}
 use Rattle.std.specs.Prelude.{⊤, MatchResult}
-use Rattle.std.specs.Option.{IfSome}
+use Rattle.std.specs.String.{string_bytes}
 use Rattle.rdc_outside.specs.Shelf.{Files, Calls}
 use Rattle.rdc_outside.specs.declared.source.Text.{Text}
 use Rattle.vlog_items.specs.Items.{Item}
 use Rattle.vlog_pre.specs.declared.fault.PreFault.{PreFault}
+use Rattle.vlog_pre.specs.declared.fault.Stopped.{Stopped}
 use Rattle.vlog_pre.specs.declared.fault.PreFault.TheVariants.{Memory}
 use Rattle.vlog_pre.specs.Known.{State}
-use Rattle.vlog_pre.specs.Expansion.{Expands, ends, next, first_state, first_items}
+use Rattle.vlog_pre.specs.Expansion.{Expands, ends, wants, next, first_state, first_items}
 use Rattle.vlog_pre.specs.Answer.{IsText, IsAnswer, calls_with}
 use Rattle.vlog_pre.specs.Turns.{IsTurn}
-use Rattle.vlog_pre.proofs.TurnLemmas.{calls_with-append}
+use Rattle.vlog_pre.proofs.TurnLemmas.{refusal, no_place, calls_with-append}
 
 -- no turn yet
-pub turn_none : (told : Files) (calls : Option Calls) (known : State) (items : List Item) → IsTurn told calls known items (Ok tt) known items calls
-turn_none told calls known items = record { more = []; listed = refl; known = sym (append-nil known.files); completes = λ loaded answer more. more }
+pub turn_none : (told : Option Files) (calls : Option Calls) (known : State) (names : List (List ℕ)) (items : List Item) → IsTurn told calls known items (Ok tt) known names items calls
+turn_none told calls known names items = record { more = []; listed = refl; known = sym (append-nil known.files); completes = λ loaded answer more. more }
 
 -- turns that went on, and one more
-pub turn_more : (told : Files) (calls between later : Option Calls) (old mid new : State) (items left rest : List Item) → IsTurn told calls old items (Ok tt) mid left between → IsTurn told between mid left (Ok tt) new rest later → IsTurn told calls old items (Ok tt) new rest later
-turn_more told calls between later old mid new items left rest so turn =
+pub turn_more : (told : Option Files) (calls between later : Option Calls) (old mid new : State) (before names : List (List ℕ)) (items left rest : List Item) → IsTurn told calls old items (Ok tt) mid before left between → IsTurn told between mid left (Ok tt) new names rest later → IsTurn told calls old items (Ok tt) new names rest later
+turn_more told calls between later old mid new before names items left rest so turn =
     record {
       more = so.more ++ turn.more;
       listed = turn.listed ∙ ap (λ (c : Option Calls). calls_with c turn.more) so.listed ∙ sym (calls_with-append calls so.more turn.more);
@@ -29,28 +30,33 @@ turn_more told calls between later old mid new items left rest so turn =
     }
 
 -- turns that went on, and one that refuses
-pub turn_stops : (told : Files) (calls between later : Option Calls) (old mid new : State) (items left rest : List Item) (fault : PreFault) → IsTurn told calls old items (Ok tt) mid left between → IsTurn told between mid left (Err fault) new rest later → IsTurn told calls old items (Err fault) new rest later
-turn_stops told calls between later old mid new items left rest fault so turn =
+pub turn_stops : (told : Option Files) (calls between later : Option Calls) (old mid new : State) (before names : List (List ℕ)) (items left rest : List Item) (fault : PreFault) → IsTurn told calls old items (Ok tt) mid before left between → IsTurn told between mid left (Err fault) new names rest later → IsTurn told calls old items (Err fault) new names rest later
+turn_stops told calls between later old mid new before names items left rest fault so turn =
     record {
       more = so.more ++ turn.more;
       listed = turn.listed ∙ ap (λ (c : Option Calls). calls_with c turn.more) so.listed ∙ sym (calls_with-append calls so.more turn.more);
-      known = tt;
-      completes = ⊎_elim (λ memory. inl memory) (λ stop. inr (so.completes turn.more (Err fault) stop)) turn.completes;
+      known = λ placed. turn.known placed ∙ ap (λ (files : List (List ℕ)). files ++ turn.more) so.known ∙ append_assoc old.files so.more turn.more;
+      completes = so.completes turn.more (Err fault) turn.completes;
     }
 
 -- turns that went on, and want of memory
-pub turn_want : (told : Files) (calls later : Option Calls) (old mid new : State) (items left rest : List Item) → IsTurn told calls old items (Ok tt) mid left later → IsTurn told calls old items (Err Memory) new rest later
-turn_want told calls later old mid new items left rest so = record { more = so.more; listed = so.listed; known = tt; completes = inl refl }
+pub turn_want : (told : Option Files) (calls later : Option Calls) (old mid new : State) (before names : List (List ℕ)) (items left rest : List Item) (fault : PreFault) → fault ≡ Memory → IsTurn told calls old items (Ok tt) mid before left later → IsTurn told calls old items (Err fault) new names rest later
+turn_want told calls later old mid new before names items left rest fault is so =
+    record {
+      more = so.more ++ [];
+      listed = so.listed ∙ ap (calls_with calls) (sym (append-nil so.more));
+      known = λ placed. absurd (no_place fault is placed);
+      completes = so.completes [] (Err fault) (wants refl (ap refusal is));
+    }
 
 -- a turn from the start
-from_first : (told : Files) (names : List (List ℕ)) (calls later : Option Calls) (old new : State) (items rest : List Item) (result : Result ⊤ PreFault) → old ≡ first_state → items ≡ first_items names → IsTurn told calls old items result new rest later → IsTurn told calls first_state (first_items names) result new rest later
-from_first told names calls later old new items rest result is left turn =
-    subst (λ (i : List Item). IsTurn told calls first_state i result new rest later) left (subst (λ (s : State). IsTurn told calls s items result new rest later) is turn)
+from_first : (told : Option Files) (given : List (List ℕ)) (calls later : Option Calls) (old new : State) (names : List (List ℕ)) (items rest : List Item) (result : Result ⊤ PreFault) → old ≡ first_state → items ≡ first_items given → IsTurn told calls old items result new names rest later → IsTurn told calls first_state (first_items given) result new names rest later
+from_first told given calls later old new names items rest result is left turn =
+    subst (λ (i : List Item). IsTurn told calls first_state i result new names rest later) left (subst (λ (s : State). IsTurn told calls s items result new names rest later) is turn)
 
 -- all turns, and nothing is left
-pub answer_text : (told : Files) (names : List (List ℕ)) (calls later : Option Calls) (old known : State) (items rest : List Item) (text : Text) → old ≡ first_state → items ≡ first_items names → IsTurn told calls old items (Ok tt) known rest later → rest ≡ [] → IsText known text → IsAnswer told names calls later (Ok text)
-answer_text told names calls later old known items rest text is left turns none text_is =
-    let all : IsTurn told calls first_state (first_items names) (Ok tt) known rest later = from_first told names calls later old known items rest (Ok tt) is left turns in
+answer_text : (told : Option Files) (given : List (List ℕ)) (calls later : Option Calls) (known : State) (names : List (List ℕ)) (rest : List Item) (text : Text) → IsTurn told calls first_state (first_items given) (Ok tt) known names rest later → rest ≡ [] → IsText known text → IsAnswer told given calls later (Ok text)
+answer_text told given calls later known names rest text all none text_is =
     record {
       loaded = all.more ++ [];
       answers = record { known = known; expands = all.completes [] (Ok known) (ends (ap (next known) none) refl refl); is_text = text_is };
@@ -58,22 +64,24 @@ answer_text told names calls later old known items rest text is left turns none 
     }
 
 -- turns, of which the last refuses
-pub answer_refusal : (told : Files) (names : List (List ℕ)) (calls later : Option Calls) (old known : State) (items rest : List Item) (fault : PreFault) → old ≡ first_state → items ≡ first_items names → IsTurn told calls old items (Err fault) known rest later → IsAnswer told names calls later (Err fault)
-answer_refusal told names calls later old known items rest fault is left turns =
-    let all : IsTurn told calls first_state (first_items names) (Err fault) known rest later = from_first told names calls later old known items rest (Err fault) is left turns in
-    record { loaded = all.more; answers = all.completes; listed = all.listed }
+answer_stop : (told : Option Files) (given : List (List ℕ)) (calls later : Option Calls) (known : State) (names : List (List ℕ)) (rest : List Item) (stop : Stopped) → map string_bytes stop.files ≡ names → IsTurn told calls first_state (first_items given) (Err stop.fault) known names rest later → IsAnswer told given calls later (Err stop)
+answer_stop told given calls later known names rest stop named all =
+    record { loaded = all.more; answers = record { expands = all.completes; files = λ placed. named ∙ all.known placed }; listed = all.listed }
+
+pub answer_refusal : (told : Option Files) (given : List (List ℕ)) (calls later : Option Calls) (old known : State) (items rest : List Item) (stop : Stopped) → old ≡ first_state → items ≡ first_items given → IsTurn told calls old items (Err stop.fault) known (map string_bytes stop.files) rest later → IsAnswer told given calls later (Err stop)
+answer_refusal told given calls later old known items rest stop is left turns =
+    answer_stop told given calls later known (map string_bytes stop.files) rest stop refl (from_first told given calls later old known (map string_bytes stop.files) items rest (Err stop.fault) is left turns)
 
 -- turns, and the text or want of memory
-pub answer_end : (told : Files) (names : List (List ℕ)) (calls later : Option Calls) (old known : State) (items rest : List Item) (result : Result Text PreFault) → old ≡ first_state → items ≡ first_items names → rest ≡ [] → MatchResult result (IsText known) (λ fault. fault ≡ Memory) → IsTurn told calls old items (Ok tt) known rest later → IsAnswer told names calls later result
-answer_end told names calls later old known items rest (Ok text) is left none text_is turns = answer_text told names calls later old known items rest text is left turns none text_is
-answer_end told names calls later old known items rest (Err fault) is left none memory turns = record { loaded = turns.more; answers = inl memory; listed = turns.listed }
+pub answer_end : (told : Option Files) (given : List (List ℕ)) (calls later : Option Calls) (old known : State) (names : List (List ℕ)) (items rest : List Item) (result : Result Text Stopped) → old ≡ first_state → items ≡ first_items given → rest ≡ [] → MatchResult result (IsText known) (λ stop. stop.fault ≡ Memory) → IsTurn told calls old items (Ok tt) known names rest later → IsAnswer told given calls later result
+answer_end told given calls later old known names items rest (Ok text) is left none text_is turns =
+    answer_text told given calls later known names rest text (from_first told given calls later old known names items rest (Ok tt) is left turns) none text_is
+answer_end told given calls later old known names items rest (Err stop) is left none memory turns =
+    let all = from_first told given calls later old known names items rest (Ok tt) is left turns in
+    let want = turn_want told calls later first_state known known names (map string_bytes stop.files) (first_items given) rest rest stop.fault memory all in
+    answer_stop told given calls later known (map string_bytes stop.files) rest stop refl want
 
 -- memory is wanted before the first turn
-pub answer_none : (told : Files) (names : List (List ℕ)) (calls : Option Calls) → IsAnswer told names calls calls (Err Memory)
-answer_none told names calls = record { loaded = []; answers = inl refl; listed = refl }
-
--- what stands of told files, from two things that stand
-pub both_told : (files others : Option Files) (P Q R : Files → Type 0) → others ≡ files → IfSome files P → IfSome others Q → ((told : Files) → P told → Q told → R told) → IfSome files R
-both_told None others P Q R same has also all = tt
-both_told (Some told) others P Q R same has also all =
-    let second : IfSome (Some told) Q = subst (λ (o : Option Files). IfSome o Q) same also in all told has second
+pub answer_none : (told : Option Files) (given : List (List ℕ)) (calls : Option Calls) (stop : Stopped) → stop.fault ≡ Memory → IsAnswer told given calls calls (Err stop)
+answer_none told given calls stop is =
+    record { loaded = []; answers = record { expands = wants refl (ap refusal is); files = λ placed. absurd (no_place stop.fault is placed) }; listed = refl }

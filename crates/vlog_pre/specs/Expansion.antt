@@ -3,15 +3,15 @@
 --     closed, given            the end of a file, and a file that was given
 --     next known items         what one step does
 --     first_state, first_items     what is known, and left, before anything is read
---     Expands files known items loaded answer     the text or the first fault, and the files loaded on the way
-use Rattle.std.specs.Prelude.{◌≡◌, ℕ, ◌+◌, ◌-◌, ◌<◌, ◌≤◌, Bool, true, false, ◌&&◌, ◌==◌, if◌then◌else◌, List, [], ◌∷◌, ◌++◌, map, length, Option, Some, None, Result, Ok, Err, IsSomeAnd}
+--     Expands told known items loaded answer     the text or the first fault, and the files loaded on the way
+use Rattle.std.specs.Prelude.{◌≡◌, ℕ, ◌+◌, ◌-◌, ◌<◌, ◌≤◌, Bool, true, false, ◌&&◌, ◌==◌, if◌then◌else◌, List, [], ◌∷◌, ◌++◌, map, length, Option, Some, None, Result, Ok, Err, IfSome, IsSomeAnd}
 use Rattle.rdc_outside.specs.Shelf.{Files}
 use Rattle.rdc_outside.specs.declared.source.Place.{Place}
 use Rattle.vlog_items.specs.declared.modes.Mode.TheVariants.{Plain}
 use Rattle.vlog_items.specs.Modes.{mode_after, is_plain}
 use Rattle.vlog_items.specs.Items.{Item, Byte, End, Given, items_of_file}
 use Rattle.vlog_pre.specs.declared.fault.PreFault.{PreFault}
-use Rattle.vlog_pre.specs.declared.fault.PreFault.TheVariants.{Absent, Read, TooLong, Unbalanced}
+use Rattle.vlog_pre.specs.declared.fault.PreFault.TheVariants.{Memory, Absent, Read, TooLong, Unbalanced}
 use Rattle.vlog_pre.specs.declared.levels.Level.{Level}
 use Rattle.vlog_pre.specs.declared.levels.Level.TheVariants.{File, Conditional}
 use Rattle.vlog_pre.specs.Kinds.{kind_of}
@@ -91,23 +91,29 @@ with_file known name = record known { files = known.files ++ name ∷ [] }
 abbrev pub first_place : State → Place
 first_place known = record { file = length known.files; line = 1; col = 1 }
 
--- the expansion of what is left: each file loaded on the way, and what is known at the end or the first fault
-pub data Expands (files : Files) : State → List Item → List (List ℕ) → Result State PreFault → Type 0 where
+-- the expansion of what is left: each file loaded on the way, and what is known at the end or the first fault;
+-- where a shelf tells no files, a load may have given any bytes, or none
+pub data Expands (told : Option Files) : State → List Item → List (List ℕ) → Result State PreFault → Type 0 where
   -- nothing is left
-  ends : {known : State} {items : List Item} {loaded : List (List ℕ)} {answer : Result State PreFault} → next known items ≡ finished → loaded ≡ [] → answer ≡ Ok known → Expands files known items loaded answer
+  ends : {known : State} {items : List Item} {loaded : List (List ℕ)} {answer : Result State PreFault} → next known items ≡ finished → loaded ≡ [] → answer ≡ Ok known → Expands told known items loaded answer
   -- the text is refused
-  stops : {known : State} {items : List Item} {loaded : List (List ℕ)} {answer : Result State PreFault} (fault : PreFault) → next known items ≡ refused fault → loaded ≡ [] → answer ≡ Err fault → Expands files known items loaded answer
+  stops : {known : State} {items : List Item} {loaded : List (List ℕ)} {answer : Result State PreFault} (fault : PreFault) → next known items ≡ refused fault → loaded ≡ [] → answer ≡ Err fault → Expands told known items loaded answer
   -- a step, and the expansion of the rest
-  goes : {known : State} {items : List Item} {loaded : List (List ℕ)} {answer : Result State PreFault} (after : State) (rest : List Item) → next known items ≡ goes_on after rest → Expands files after rest loaded answer → Expands files known items loaded answer
+  goes : {known : State} {items : List Item} {loaded : List (List ℕ)} {answer : Result State PreFault} (after : State) (rest : List Item) → next known items ≡ goes_on after rest → Expands told after rest loaded answer → Expands told known items loaded answer
   -- a file, which stands in front of what follows
   enters : {known : State} {items : List Item} {loaded : List (List ℕ)} {answer : Result State PreFault} (name : List ℕ) (within : List (List ℕ)) (after : State) (rest : List Item) (bytes : List ℕ) (later : List (List ℕ)) → next known items ≡ loads name within after rest
-      → files name ≡ Some bytes → length bytes ≤ 16777216 → Expands files (with_file after name) (items_of_file within (first_place after) bytes ++ rest) later answer → loaded ≡ name ∷ later → Expands files known items loaded answer
+      → IfSome told (λ files. files name ≡ Some bytes) → length bytes ≤ 16777216 → Expands told (with_file after name) (items_of_file within (first_place after) bytes ++ rest) later answer → loaded ≡ name ∷ later → Expands told known items loaded answer
   -- a file that is not there
   misses : {known : State} {items : List Item} {loaded : List (List ℕ)} {answer : Result State PreFault} (name : List ℕ) (within : List (List ℕ)) (after : State) (rest : List Item) → next known items ≡ loads name within after rest
-      → files name ≡ None → loaded ≡ name ∷ [] → answer ≡ Err (Absent name) → Expands files known items loaded answer
+      → IfSome told (λ files. files name ≡ None) → loaded ≡ name ∷ [] → answer ≡ Err (Absent name) → Expands told known items loaded answer
   -- a file that is too long
   exceeds : {known : State} {items : List Item} {loaded : List (List ℕ)} {answer : Result State PreFault} (name : List ℕ) (within : List (List ℕ)) (after : State) (rest : List Item) → next known items ≡ loads name within after rest
-      → IsSomeAnd (files name) (λ bytes. 16777216 < length bytes) → loaded ≡ name ∷ [] → answer ≡ Err (TooLong name) → Expands files known items loaded answer
+      → IfSome told (λ files. IsSomeAnd (files name) (λ bytes. 16777216 < length bytes)) → loaded ≡ name ∷ [] → answer ≡ Err (TooLong name) → Expands told known items loaded answer
   -- a file that can't be read
   fails : {known : State} {items : List Item} {loaded : List (List ℕ)} {answer : Result State PreFault} (name : List ℕ) (within : List (List ℕ)) (after : State) (rest : List Item) → next known items ≡ loads name within after rest
-      → loaded ≡ name ∷ [] → answer ≡ Err (Read name) → Expands files known items loaded answer
+      → loaded ≡ name ∷ [] → answer ≡ Err (Read name) → Expands told known items loaded answer
+  -- memory is wanted
+  wants : {known : State} {items : List Item} {loaded : List (List ℕ)} {answer : Result State PreFault} → loaded ≡ [] → answer ≡ Err Memory → Expands told known items loaded answer
+  -- memory is wanted behind a load
+  wants_more : {known : State} {items : List Item} {loaded : List (List ℕ)} {answer : Result State PreFault} (name : List ℕ) (within : List (List ℕ)) (after : State) (rest : List Item) → next known items ≡ loads name within after rest
+      → loaded ≡ name ∷ [] → answer ≡ Err Memory → Expands told known items loaded answer

@@ -107,6 +107,8 @@ pub record IsNearer (outcome : Outcome) (old : State) (items : List Item) (new :
   pub files : new.files ≡ old.files
   -- each byte more has a place more
   pub even : length new.places + length old.bytes ≡ length old.places + length new.bytes
+  -- the text stays below its limit
+  pub small : length old.bytes < 16777216 → length new.bytes < 16777216
 
 -- a fault that no load gives
 abbrev pub IsOwn : PreFault → Type 0

@@ -9,7 +9,7 @@ ghost use Rattle.vlog_pre.specs.Answer.{IsText, IsAnswer, CountsFault};
 ghost use Rattle.vlog_pre.specs.Turns.{IsTurn};
 
 use crate::copying::copy;
-use crate::fault::PreFault;
+use crate::fault::{PreFault, Stopped};
 use crate::known::Known;
 use crate::levels::Levels;
 use crate::loading::load;
@@ -54,14 +54,28 @@ fn is_done(reader: &Reader) -> bool
     }
 }
 
+// Memory is wanted.
+fn wanting(alloc: Global) -> Stopped
+    ensures { result.fault ≡ Memory }
+{
+    Stopped {
+        fault: PreFault::Memory,
+        files: Seq::new(alloc),
+    }
+}
+
 // The text that is known at the end.
-fn text_of(mut known: Known, files: Seq<String>) -> Result<Text, PreFault>
+fn text_of(alloc: Global, mut known: Known, files: Seq<String>) -> Result<Text, Stopped>
     requires named { map string_bytes files ≡ known.files }
     requires even { length known.places ≡ length known.bytes }
+    requires small { length known.bytes < 16777216 }
     ensures even { IfOk result (λ text. length text.places ≡ length text.bytes + 1) }
-    ensures value { MatchResult result (IsText (state_of known)) (λ fault. fault ≡ Memory) }
+    ensures small { IfOk result (λ text. length text.bytes < 16777216) }
+    ensures value { MatchResult result (IsText (state_of known)) (λ stop. stop.fault ≡ Memory) }
 {
-    known.places.push(known.end)?;
+    let Ok(()) = known.places.push(known.end) else {
+        return Err(wanting(alloc));
+    };
     Ok(Text {
         bytes: known.bytes,
         places: known.places,
@@ -81,7 +95,8 @@ fn turn<S: Shelf>(
     requires some { ahead_of reader.old.items ≡ Nothing → ⊥ }
     requires few { length known.old.files ≤ known.old.count }
     requires named { map string_bytes files.old ≡ known.old.files }
-    ensures value { IfSome (S.files shelf.old) (λ told. IsTurn told (S.calls shelf.old) (state_of known.old) reader.old.items result (state_of known.new) reader.new.items (S.calls shelf.new)) }
+    requires small { length known.old.bytes < 16777216 }
+    ensures value { IsTurn (S.files shelf.old) (S.calls shelf.old) (state_of known.old) reader.old.items result (state_of known.new) (map string_bytes files.new) reader.new.items (S.calls shelf.new) }
     ensures counted { IfErr result (λ fault. CountsFault fault (S.absences shelf.old) (S.absences shelf.new) (S.faults shelf.old) (S.faults shelf.new)) }
     ensures same { S.files shelf.new ≡ S.files shelf.old }
     ensures faults { S.faults shelf.old ≤ S.faults shelf.new }
@@ -90,6 +105,7 @@ fn turn<S: Shelf>(
     ensures sooner { OnOk result (length reader.new.items + 1 + 16777300 * known.old.count ≤ length reader.old.items + 16777300 * known.new.count) }
     ensures bounded { OnOk result (known.new.count < 1048576) }
     ensures few { OnOk result (length known.new.files ≤ known.new.count) }
+    ensures small { OnOk result (length known.new.bytes < 16777216) }
     ensures even { OnOk result (length known.new.places + length known.old.bytes ≡ length known.old.places + length known.new.bytes) }
     ensures named { OnOk result (map string_bytes files.new ≡ known.new.files) }
 {
@@ -114,8 +130,10 @@ fn run<S: Shelf>(
     requires count { known.old.count < 1048576 }
     requires few { length known.old.files ≤ known.old.count }
     requires named { map string_bytes files.old ≡ known.old.files }
-    ensures value { IfSome (S.files shelf.old) (λ told. IsTurn told (S.calls shelf.old) (state_of known.old) reader.old.items result (state_of known.new) reader.new.items (S.calls shelf.new)) }
+    requires small { length known.old.bytes < 16777216 }
+    ensures value { IsTurn (S.files shelf.old) (S.calls shelf.old) (state_of known.old) reader.old.items result (state_of known.new) (map string_bytes files.new) reader.new.items (S.calls shelf.new) }
     ensures whole { OnOk result (reader.new.items ≡ []) }
+    ensures small { OnOk result (length known.new.bytes < 16777216) }
     ensures even { OnOk result (length known.new.places + length known.old.bytes ≡ length known.old.places + length known.new.bytes) }
     ensures named { OnOk result (map string_bytes files.new ≡ known.new.files) }
     ensures counted { IfErr result (λ fault. CountsFault fault (S.absences shelf.old) (S.absences shelf.new) (S.faults shelf.old) (S.faults shelf.new)) }
@@ -140,15 +158,16 @@ fn run<S: Shelf>(
 
 /// The expansion of these files, one after another, with a line feed between two. Files are loaded in the order in which
 /// they are met. Costs one pass over what is read, and a walk over the macros in use at each use.
-pub fn expand<S: Shelf>(alloc: Global, shelf: &mut S, names: &[String]) -> Result<Text, PreFault>
-    // Over told files: the text or the first fault, and the loads in their order.
-    ensures value { IfSome (S.files shelf.old) (λ told. IsAnswer told (map string_bytes names.now) (S.calls shelf.old) (S.calls shelf.new) result) }
+pub fn expand<S: Shelf>(alloc: Global, shelf: &mut S, names: &[String]) -> Result<Text, Stopped>
+    // The text, or the first fault and the names of the files so far; and the loads in their order.
+    ensures value { IsAnswer (S.files shelf.old) (map string_bytes names.now) (S.calls shelf.old) (S.calls shelf.new) result }
 
-    // Each byte of a text has its place, and so has its end.
+    // Each byte of a text has its place, and so has its end. The text is shorter than 16 MiB.
     ensures placed { IfOk result (λ text. length text.places ≡ length text.bytes + 1) }
+    ensures small { IfOk result (λ text. length text.bytes < 16777216) }
 
     // A missing file and a failed load are counted, whether the files are told or not.
-    ensures counted { IfErr result (λ fault. CountsFault fault (S.absences shelf.old) (S.absences shelf.new) (S.faults shelf.old) (S.faults shelf.new)) }
+    ensures counted { IfErr result (λ stop. CountsFault stop.fault (S.absences shelf.old) (S.absences shelf.new) (S.faults shelf.old) (S.faults shelf.new)) }
 
     // No file changes, and no count falls.
     ensures same { S.files shelf.new ≡ S.files shelf.old }
@@ -157,12 +176,12 @@ pub fn expand<S: Shelf>(alloc: Global, shelf: &mut S, names: &[String]) -> Resul
     ensures excesses { S.excesses shelf.old ≤ S.excesses shelf.new }
 {
     let Ok(mut reader) = Reader::new(alloc, names) else {
-        return Err(PreFault::Memory);
+        return Err(wanting(alloc));
     };
     let mut known = first_known(alloc);
     let mut files = Seq::new(alloc);
     match run(alloc, shelf, &mut known, &mut reader, &mut files) {
-        Err(fault) => Err(fault),
-        Ok(()) => text_of(known, files),
+        Err(fault) => Err(Stopped { fault, files }),
+        Ok(()) => text_of(alloc, known, files),
     }
 }

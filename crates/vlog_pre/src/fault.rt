@@ -24,6 +24,14 @@ pub enum PreFault {
     TooDeep(Place),
 }
 
+/// Where an expansion stopped: the fault, and the names of the files that were loaded until then. The file of the fault's
+/// place is a number in this list.
+#[derive(Debug, Drop)]
+pub struct Stopped {
+    pub fault: PreFault,
+    pub files: Seq<String>,
+}
+
 impl From<AllocError> for PreFault {
     ghost use Rattle.std.specs.Prelude.{◌≡◌};
     ghost use Rattle.vlog_pre.specs.declared.fault.PreFault.TheVariants.{Memory};

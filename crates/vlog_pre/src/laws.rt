@@ -6,7 +6,7 @@ pub fn one_text()
     ensures { OneText }
 {}
 
-/// Where no load fails, one list of files has at most one answer: a text, or the first fault.
+/// Where no load fails and memory suffices, one list of files has at most one answer: a text, or the first fault.
 pub fn one_answer()
     ensures { OneAnswer }
 {}

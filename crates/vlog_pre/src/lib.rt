@@ -28,7 +28,7 @@ mod using;
 mod words;
 
 pub use expansion::expand;
-pub use fault::PreFault;
+pub use fault::{PreFault, Stopped};
 pub use laws::{one_answer, one_text};
 
 #[cfg(test)]

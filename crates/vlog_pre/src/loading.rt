@@ -43,7 +43,7 @@ pub(crate) fn load<S: Shelf>(
 ) -> Result<(), PreFault>
     requires few { length known.old.files < 1048576 }
     requires named { map string_bytes files.old ≡ known.old.files }
-    ensures value { IfSome (S.files shelf.old) (λ told. IsLoaded told (string_bytes name) reader.old.names (state_of known.old) reader.old.items result (state_of known.new) reader.new.items) }
+    ensures value { IsLoaded (S.files shelf.old) (string_bytes name) reader.old.names (state_of known.old) reader.old.items result (state_of known.new) reader.new.items }
     ensures listed { IsListed (S.calls shelf.old) (string_bytes name) result (S.calls shelf.new) }
     ensures counted { IfErr result (λ fault. CountsFault fault (S.absences shelf.old) (S.absences shelf.new) (S.faults shelf.old) (S.faults shelf.new)) }
     ensures same { S.files shelf.new ≡ S.files shelf.old }
@@ -53,6 +53,7 @@ pub(crate) fn load<S: Shelf>(
     ensures longer { OnOk result (length reader.new.items ≤ length reader.old.items + 16777217) }
     ensures count { OnOk result (known.new.count ≡ known.old.count) }
     ensures even { OnOk result (length known.new.places + length known.old.bytes ≡ length known.old.places + length known.new.bytes) }
+    ensures same_text { OnOk result (known.new.bytes ≡ known.old.bytes) }
     ensures more { OnOk result (length known.new.files ≡ length known.old.files + 1) }
     ensures named { OnOk result (map string_bytes files.new ≡ known.new.files) }
 {

@@ -5,7 +5,7 @@ mod macros;
 mod parameters;
 mod plain;
 
-use crate::{PreFault, expand};
+use crate::{PreFault, Stopped, expand};
 use rdc_outside::{MemShelf, Place, Text};
 use std::alloc::{AllocError, Global};
 use std::test::Fail;
@@ -80,9 +80,9 @@ fn fault_shown(alloc: Global, fault: PreFault) -> Result<String, AllocError> {
 }
 
 // The text behind a `=`, or the fault.
-fn text_shown(alloc: Global, answer: Result<Text, PreFault>) -> Result<String, AllocError> {
+fn text_shown(alloc: Global, answer: Result<Text, Stopped>) -> Result<String, AllocError> {
     match answer {
-        Err(fault) => fault_shown(alloc, fault),
+        Err(stop) => fault_shown(alloc, stop.fault),
         Ok(text) => {
             let bytes = String::from_utf8_lossy(alloc, text.bytes.as_slice())?;
             format!(in alloc; "={bytes}")

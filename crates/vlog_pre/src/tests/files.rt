@@ -36,7 +36,16 @@ fn with_places(alloc: Global, bytes: &[u8], names: &[&str]) -> Result<String, Fa
     let mut shelf = shelf_of(alloc, bytes, &[])?;
     let names = names_of(alloc, names)?;
     match expand(alloc, &mut shelf, &names) {
-        Err(fault) => Ok(text_shown(alloc, Err(fault))?),
+        Err(stop) => {
+            let mut all = String::new(alloc);
+            for name in stop.files.as_slice() {
+                all.push_str(name.as_str())?;
+                all.push_str(" ")?;
+            }
+            let shown = text_shown(alloc, Err(stop))?;
+            all.push_str(shown.as_str())?;
+            Ok(all)
+        }
         Ok(text) => {
             let mut all = String::from_utf8_lossy(alloc, text.bytes.as_slice())?;
             for place in text.places.as_slice() {
@@ -74,6 +83,15 @@ fn what_one_file_defines_the_next_has(rt: HostRuntime) -> Result<(), Fail> {
         got.as_str(),
         "/* open\n`x */ y 0:1:1 0:1:2 0:1:3 0:1:4 0:1:5 0:1:6 0:1:7 0:1:8 1:1:1 1:1:2 1:1:3 1:1:4 1:1:5 1:1:6 1:1:7 1:1:8 note.v a.v"
     );
+    Ok(())
+}
+
+#[test]
+fn a_fault_is_told_with_the_files_so_far(rt: HostRuntime) -> Result<(), Fail> {
+    let alloc = rt.alloc();
+    let source = b"`include \"b.v\"\n`include \"open.v\"".as_slice();
+    let got = with_places(alloc, source, &["def.v", "a.v", "note.v"])?;
+    assert_eq!(rt; got.as_str(), "def.v a.v b.v open.v Unbalanced 3:2:1");
     Ok(())
 }
 

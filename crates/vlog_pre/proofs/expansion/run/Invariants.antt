@@ -1,6 +1,5 @@
 -- The turns so far, and that they end.
 use Rattle.std.proofs.Common.{◌≡◌, ◌+◌, ◌-◌, ◌*◌, ◌<◌, ◌≤◌, Ok, length, map}
-use Rattle.std.specs.Option.{IfSome}
 use Rattle.std.specs.String.{string_bytes}
 use Rattle.vlog_pre.specs.Known.{state_of}
 use Rattle.vlog_pre.specs.Turns.{IsTurn}
@@ -8,7 +7,7 @@ use Rattle.vlog_pre.proofs.expansion.run.Given as goal
 
 abbrev pub invariant-turns : goal.invariant-turns
 invariant-turns g l = record {
-  reached : IfSome (g.S.Shelf.files l.initial.shelf) (λ told. IsTurn told (g.S.Shelf.calls l.initial.shelf) (state_of l.initial.known) l.initial.reader.items (Ok tt) (state_of l.known) l.reader.items (g.S.Shelf.calls l.shelf));
+  reached : IsTurn (g.S.Shelf.files l.initial.shelf) (g.S.Shelf.calls l.initial.shelf) (state_of l.initial.known) l.initial.reader.items (Ok tt) (state_of l.known) (map string_bytes l.files) l.reader.items (g.S.Shelf.calls l.shelf);
   same : g.S.Shelf.files l.shelf ≡ g.S.Shelf.files l.initial.shelf;
   faults : g.S.Shelf.faults l.initial.shelf ≤ g.S.Shelf.faults l.shelf;
   absences : g.S.Shelf.absences l.initial.shelf ≤ g.S.Shelf.absences l.shelf;
@@ -17,6 +16,7 @@ invariant-turns g l = record {
   even : length l.known.places + length l.initial.known.bytes ≡ length l.initial.known.places + length l.known.bytes;
   few : length l.known.files ≤ l.known.count;
   named : map string_bytes l.files ≡ l.known.files;
+  small : length l.known.bytes < 16777216;
 }
 
 abbrev pub decreases-turns : goal.decreases-turns
