@@ -1,15 +1,29 @@
 -- Serves specs/Ends.antt and specs/Signoff.antt: how the stages of a call join, and which status each end has.
-use Rattle.std.proofs.Common.{◌≡◌, ℕ, ◌≤◌, Bool, true, false, cond, List, [], ◌∷◌, length, Option, Some, None, refl, sym, ap, subst, ◌∙◌, inl, inr}
+use Rattle.std.proofs.Common.{◌≡◌, ℕ, ◌≤◌, Bool, true, false, cond, List, [], ◌∷◌, ◌++◌, length, Option, Some, None, Ok, Err, refl, sym, ap, subst, ◌∙◌, inl, inr, ◌⊎◌, arith}
 use Rattle.std.specs.Prelude.{IsSomeAnd, IfSome}
-use Rattle.rdc_outside.specs.Shelf.{Files, Calls, Call, Load}
+use Rattle.rdc_outside.specs.Shelf.{Files, Calls, Call, Load, list_call}
 use Rattle.rdc_outside.specs.declared.outcome.Status.{Status}
+use Rattle.rdc_outside.specs.declared.source.Place.{Place}
+use Rattle.rdc_outside.specs.declared.source.Text.{Text}
+use Rattle.rdc_outside.proofs.CountsLemmas.{Rose-widen}
+use Rattle.vlog_pre.specs.declared.fault.PreFault.{PreFault}
+use Rattle.vlog_pre.specs.declared.fault.PreFault.TheVariants as pre
+use Rattle.vlog_pre.specs.declared.fault.Stopped.{Stopped}
+use Rattle.vlog_pre.specs.Known.{State}
+use Rattle.vlog_pre.specs.Expansion.{Expands, first_state, first_items}
+use Rattle.vlog_pre.specs.Answer.{HasPlace, IsExpansion, IsAnswer, CountsFault, calls_with}
+use Rattle.vlog_lex.specs.declared.fault.LexFault.{LexFault}
+use Rattle.vlog_lex.specs.declared.fault.LexFault.TheVariants as lex
+use Rattle.vlog_lex.specs.Tokens.{AreTokens, IsFault}
 use Rattle.rdcsign.specs.declared.loading.TheConstants.{MOST}
-use Rattle.rdcsign.specs.Request.{Request, request_of}
-use Rattle.rdcsign.specs.Outcome.{Outcome, Usage, Absent, Read, NotYet, Memory, Judged, status_of, cut_status, Says}
-use Rattle.rdcsign.specs.Ends.{IsLoaded, IsRefusedLoad, load_unless_memory, IsJudgement, IsReport, Ends, EndsRequest, at_constraints, at_file, with_both}
-use Rattle.rdcsign.specs.Loads.{with_loads}
-use Rattle.rdcsign.specs.Answers.{EndsListed, EndsWords}
-use Rattle.rdcsign.specs.Signoff.{IsThere, AreLoaded, IsJudgedAs, IsCauseFor, IsCauseOf, IsCause}
+use Rattle.rdcsign.specs.Request.{Request, request_of, texts}
+use Rattle.rdcsign.specs.Outcome.{Outcome, Usage, Absent, Read, Source, NotYet, Memory, Judged, status_of, cut_status, Says}
+use Rattle.rdcsign.specs.Faults.{stopped, unread}
+use Rattle.rdcsign.specs.Lexemes.{lexemes}
+use Rattle.rdcsign.specs.Ends.{IsLoaded, IsRefusedLoad, loads_of, load_unless_memory, IsOrMemory, IsStopped, ExpandTo, IsUnread, HasTokens, DeclaresNone, IsJudgement, IsReport, Ends, EndsRequest, at_constraints, at_sources, at_tokens, with_all}
+use Rattle.rdcsign.specs.Loads.{with_loads, CountsRefusal}
+use Rattle.rdcsign.specs.Answers.{EndsText, no_tokens, judged, EndsListed, EndsWords}
+use Rattle.rdcsign.specs.Signoff.{IsThere, IsTooBig, AreRead, IsJudgedAs, IsMissing, IsFaulty, IsUnformed, IsCauseFor, IsCauseOf, IsCause}
 
 -- a load and then more loads
 loads_after : (calls : Option Calls) (c : Call) (cs : List Call) → with_loads (with_loads calls (c ∷ [])) cs ≡ with_loads calls (c ∷ cs)
@@ -24,23 +38,65 @@ pub ends_at_constraints : (told : Option Files) (r : Request) (outcome : Outcome
     → EndsListed told r outcome old new
 ends_at_constraints told r outcome old new is listed = record { made = load_unless_memory r.constraints outcome; ends = at_constraints is refl; listed = listed }
 
--- it ends at its second
-pub ends_at_file : (told later : Option Files) (r : Request) (outcome : Outcome) (old mid new : Option Calls) (constraints : List ℕ) → later ≡ told → IsLoaded told r.constraints constraints
-    → IsRefusedLoad later r.file outcome → mid ≡ with_loads old (Load r.constraints MOST ∷ []) → new ≡ with_loads mid (load_unless_memory r.file outcome) → EndsListed told r outcome old new
-ends_at_file told later r outcome old mid new constraints same loaded is first second = record {
-  made = Load r.constraints MOST ∷ load_unless_memory r.file outcome;
-  ends = at_file constraints loaded (subst (λ (t : Option Files). IsRefusedLoad t r.file outcome) same is) refl;
-  listed = listed_after old mid new (Load r.constraints MOST) (load_unless_memory r.file outcome) first second;
-}
+-- the loads of an expansion are loads
+loads_are : (calls : Option Calls) (names : List (List ℕ)) → calls_with calls names ≡ with_loads calls (loads_of names)
+loads_are None [] = refl
+loads_are None (name ∷ names) = loads_are None names
+loads_are (Some told) [] = refl
+loads_are (Some told) (name ∷ names) = loads_are (Some (list_call told (Load name MOST))) names
 
--- it ends with both files in hand
-pub ends_with_both : (told later : Option Files) (r : Request) (outcome : Outcome) (old mid new : Option Calls) (constraints source : List ℕ) → later ≡ told → IsLoaded told r.constraints constraints
-    → IsLoaded later r.file source → IsJudgement r constraints source outcome → mid ≡ with_loads old (Load r.constraints MOST ∷ []) → new ≡ with_loads mid (Load r.file MOST ∷ []) → EndsListed told r outcome old new
-ends_with_both told later r outcome old mid new constraints source same first-loaded second-loaded is first second = record {
-  made = Load r.constraints MOST ∷ Load r.file MOST ∷ [];
-  ends = with_both constraints source first-loaded (subst (λ (t : Option Files). IsLoaded t r.file source) same second-loaded) is refl;
-  listed = listed_after old mid new (Load r.constraints MOST) (Load r.file MOST ∷ []) first second;
-}
+-- the load of the constraints, and then those of an expansion
+listed_behind : (old mid new : Option Calls) (name : List ℕ) (loaded : List (List ℕ)) → mid ≡ with_loads old (loads_of (name ∷ [])) → new ≡ calls_with mid loaded → new ≡ with_loads old (loads_of (name ∷ loaded))
+listed_behind old mid new name loaded first second = listed_after old mid new (Load name MOST) (loads_of loaded) first (second ∙ loads_are mid loaded)
+
+-- a fault without a place says nothing of the files
+said_same : (files loaded : List (List ℕ)) (fault : PreFault) → (HasPlace fault → files ≡ loaded) → stopped files fault ≡ stopped loaded fault
+said_same files loaded pre.Memory are = refl
+said_same files loaded (pre.Absent name) are = refl
+said_same files loaded (pre.Read name) are = refl
+said_same files loaded (pre.TooLong name) are = refl
+said_same files loaded (pre.UnknownDirective place) are = ap (λ (fs : List (List ℕ)). stopped fs (pre.UnknownDirective place)) (are tt)
+said_same files loaded (pre.Unbalanced place) are = ap (λ (fs : List (List ℕ)). stopped fs (pre.Unbalanced place)) (are tt)
+said_same files loaded (pre.BadMacroUse place) are = ap (λ (fs : List (List ℕ)). stopped fs (pre.BadMacroUse place)) (are tt)
+said_same files loaded (pre.MacroLoop name place) are = ap (λ (fs : List (List ℕ)). stopped fs (pre.MacroLoop name place)) (are tt)
+said_same files loaded (pre.TooDeep place) are = ap (λ (fs : List (List ℕ)). stopped fs (pre.TooDeep place)) (are tt)
+
+-- it ends at the expansion of the sources
+pub ends_at_sources : (told later : Option Files) (r : Request) (outcome : Outcome) (old mid new : Option Calls) (constraints : List ℕ) (stop : Stopped) → later ≡ told → IsLoaded told r.constraints constraints
+    → IsAnswer later r.files mid new (Err stop) → IsOrMemory outcome (stopped (texts stop.files) stop.fault) → mid ≡ with_loads old (loads_of (r.constraints ∷ [])) → EndsListed told r outcome old new
+ends_at_sources told later r outcome old mid new constraints stop same loaded answer is first =
+    let at = subst (λ (t : Option Files). IsAnswer t r.files mid new (Err stop)) same answer in
+    let said = said_same (texts stop.files) at.loaded stop.fault at.answers.files in
+    record {
+      made = loads_of (r.constraints ∷ at.loaded);
+      ends = at_sources constraints at.loaded loaded (record { fault = stop.fault; expands = at.answers.expands; outcome_is = subst (IsOrMemory outcome) said is }) refl;
+      listed = listed_behind old mid new r.constraints at.loaded first at.listed;
+    }
+
+-- how what is known at the end of an expansion ends the call
+ends_known : (told : Option Files) (r : Request) (outcome : Outcome) (constraints : List ℕ) (loaded : List (List ℕ)) (text : Text) → IsLoaded told r.constraints constraints → IsExpansion told r.files loaded text
+    → EndsText r constraints text outcome → Ends told r outcome (loads_of (r.constraints ∷ loaded))
+ends_known told r outcome constraints loaded text c expansion (no_tokens fault is outcome_is) =
+    let known = expansion.known in
+    let at_places = subst (λ (places : List Place). IsFault text.bytes places fault) expansion.is_text.places is in
+    let is_fault = subst (λ (bytes : List ℕ). IsFault bytes (known.places ++ known.end ∷ []) fault) expansion.is_text.bytes at_places in
+    at_tokens constraints loaded known c expansion.expands (record { fault = fault; is_fault = is_fault; outcome_is = subst (λ (fs : List (List ℕ)). IsOrMemory outcome (unread fs fault)) expansion.is_text.files outcome_is }) refl
+ends_known told r outcome constraints loaded text c expansion (judged tokens are is) =
+    let known = expansion.known in
+    let tokens_are = subst (λ (bytes : List ℕ). AreTokens 0 bytes tokens) expansion.is_text.bytes are in
+    with_all constraints loaded (lexemes text.bytes tokens) c
+    (record { known = known; expand = expansion.expands; tokens = tokens; are_tokens = tokens_are; words_are = ap (λ (bytes : List ℕ). lexemes bytes tokens) expansion.is_text.bytes }) is refl
+
+-- it ends with the text of the sources
+pub ends_with_text : (told later : Option Files) (r : Request) (outcome : Outcome) (old mid new : Option Calls) (constraints : List ℕ) (text : Text) → later ≡ told → IsLoaded told r.constraints constraints
+    → IsAnswer later r.files mid new (Ok text) → EndsText r constraints text outcome → mid ≡ with_loads old (loads_of (r.constraints ∷ [])) → EndsListed told r outcome old new
+ends_with_text told later r outcome old mid new constraints text same loaded answer is first =
+    let at = subst (λ (t : Option Files). IsAnswer t r.files mid new (Ok text)) same answer in
+    record {
+      made = loads_of (r.constraints ∷ at.loaded);
+      ends = ends_known told r outcome constraints at.loaded text loaded at.answers is;
+      listed = listed_behind old mid new r.constraints at.loaded first at.listed;
+    }
 
 -- the words' end is their request's
 pub ends_words : (told : Option Files) (words : List (List ℕ)) (r : Request) (outcome : Outcome) (old new : Option Calls) → Some r ≡ request_of words → EndsListed told r outcome old new → EndsWords told words outcome old new
@@ -53,12 +109,14 @@ ends_words told words r outcome old new is ends = record {
 there : (files : Files) (name bytes : List ℕ) → IsLoaded (Some files) name bytes → IsThere files name
 there files name bytes loaded = subst (λ (o : Option (List ℕ)). IsSomeAnd o (λ bs. length bs ≤ MOST)) (sym loaded.value) loaded.within
 
-abbrev loaded_both : (files : Files) (r : Request) (constraints source : List ℕ) → IsLoaded (Some files) r.constraints constraints → IsLoaded (Some files) r.file source → AreLoaded files r
-loaded_both files r constraints source c s = record { constraints = constraints; source = source; has_constraints = c.value; has_source = s.value; constraints_fit = c.within; source_fits = s.within }
-
-judged_as : (files : Files) (r : Request) (constraints source report : List ℕ) (crossing : Bool) → IsLoaded (Some files) r.constraints constraints → IsLoaded (Some files) r.file source
+judged_as : (files : Files) (r : Request) (constraints : List ℕ) (loaded source : List (List ℕ)) (report : List ℕ) (crossing : Bool) → IsLoaded (Some files) r.constraints constraints → HasTokens (Some files) r loaded source
     → IsReport r.top constraints source report crossing → IsJudgedAs crossing files r
-judged_as files r constraints source report crossing c s is = record { design = is.design; roles = is.roles; spelled = record { loaded = loaded_both files r constraints source c s; of_form = is.of_form }; verdict = sym is.verdict }
+judged_as files r constraints loaded source report crossing c t is = record {
+  design = is.design;
+  roles = is.roles;
+  spelled = record { are_read = record { constraints = constraints; loaded = loaded; source = source; has_constraints = c; has_tokens = t }; of_form = is.of_form };
+  verdict = sym is.verdict;
+}
 
 -- the status of an outcome, whole or cut
 abbrev pub status_at : Outcome → Bool → Status
@@ -71,50 +129,103 @@ cause_of_judged files r report false is true = is
 cause_of_judged files r report true is false = inr is
 cause_of_judged files r report false is false = inl is
 
+-- the statuses of refusals, whole or cut
+cause_of_memory : (files : Files) (r : Request) (whole : Bool) → IsCauseFor files r (status_at Memory whole)
+cause_of_memory files r true = tt
+cause_of_memory files r false = tt
+
+cause_of_read : (files : Files) (r : Request) (name : List ℕ) (whole : Bool) → IsCauseFor files r (status_at (Read name) whole)
+cause_of_read files r name true = tt
+cause_of_read files r name false = tt
+
+cause_of_absent : (files : Files) (r : Request) (name : List ℕ) → IsMissing files r → (whole : Bool) → IsCauseFor files r (status_at (Absent name) whole)
+cause_of_absent files r name is true = is
+cause_of_absent files r name is false = is
+
+cause_of_source : (files : Files) (r : Request) (details : List ℕ) → IsFaulty files r → (whole : Bool) → IsCauseFor files r (status_at (Source details) whole)
+cause_of_source files r details is true = is
+cause_of_source files r details is false = is
+
+cause_of_notyet : (files : Files) (r : Request) (name : List ℕ) → IsTooBig files r.constraints ⊎ IsUnformed files r → (whole : Bool) → IsCauseFor files r (status_at (NotYet name) whole)
+cause_of_notyet files r name is true = is
+cause_of_notyet files r name is false = is
+
 cause_at_constraints : (files : Files) (r : Request) (outcome : Outcome) → IsRefusedLoad (Some files) r.constraints outcome → (whole : Bool) → IsCauseFor files r (status_at outcome whole)
 cause_at_constraints files r Usage is whole = absurd is
-cause_at_constraints files r (Absent n) is true = inl is.1
-cause_at_constraints files r (Absent n) is false = inl is.1
-cause_at_constraints files r (Read n) is true = tt
-cause_at_constraints files r (Read n) is false = tt
-cause_at_constraints files r (NotYet n) is true = inl (inl is.1)
-cause_at_constraints files r (NotYet n) is false = inl (inl is.1)
-cause_at_constraints files r Memory is true = tt
-cause_at_constraints files r Memory is false = tt
+cause_at_constraints files r (Absent n) is whole = cause_of_absent files r n (inl is.1) whole
+cause_at_constraints files r (Read n) is whole = cause_of_read files r n whole
+cause_at_constraints files r (Source details) is whole = absurd is
+cause_at_constraints files r (NotYet n) is whole = cause_of_notyet files r n (inl is.1) whole
+cause_at_constraints files r Memory is whole = cause_of_memory files r whole
 cause_at_constraints files r (Judged report crossing) is whole = absurd is
 
-cause_at_file : (files : Files) (r : Request) (outcome : Outcome) → IsThere files r.constraints → IsRefusedLoad (Some files) r.file outcome → (whole : Bool) → IsCauseFor files r (status_at outcome whole)
-cause_at_file files r Usage first is whole = absurd is
-cause_at_file files r (Absent n) first is true = inr (first, is.1)
-cause_at_file files r (Absent n) first is false = inr (first, is.1)
-cause_at_file files r (Read n) first is true = tt
-cause_at_file files r (Read n) first is false = tt
-cause_at_file files r (NotYet n) first is true = inl (inr (first, is.1))
-cause_at_file files r (NotYet n) first is false = inl (inr (first, is.1))
-cause_at_file files r Memory first is true = tt
-cause_at_file files r Memory first is false = tt
-cause_at_file files r (Judged report crossing) first is whole = absurd is
+-- an outcome that is wanted, or want of memory
+cause_of_either : (files : Files) (r : Request) (outcome wanted : Outcome) (whole : Bool) → IsOrMemory outcome wanted → IsCauseFor files r (status_at wanted whole) → IsCauseFor files r (status_at outcome whole)
+cause_of_either files r outcome wanted whole (inl is) cause = subst (λ (o : Outcome). IsCauseFor files r (status_at o whole)) (sym is) cause
+cause_of_either files r outcome wanted whole (inr is) cause = subst (λ (o : Outcome). IsCauseFor files r (status_at o whole)) (sym is) (cause_of_memory files r whole)
 
-unformed : (files : Files) (r : Request) (constraints source n : List ℕ) → AreLoaded files r → IsLoaded (Some files) r.constraints constraints → IsLoaded (Some files) r.file source
-    → IsJudgement r constraints source (NotYet n) → IsCauseFor files r (status_of (NotYet n))
-unformed files r constraints source n both c s (inl is) = inr (record { loaded = loaded_both files r constraints source c s; unformed = inl is.1 })
-unformed files r constraints source n both c s (inr is) = inr (record { loaded = loaded_both files r constraints source c s; unformed = inr is.1 })
+-- what is said of a fault of the source
+abbrev details_of : Outcome → List ℕ
+details_of Usage = []
+details_of (Absent n) = []
+details_of (Read n) = []
+details_of (Source details) = details
+details_of (NotYet n) = []
+details_of Memory = []
+details_of (Judged report crossing) = []
 
-cause_with_both : (files : Files) (r : Request) (constraints source : List ℕ) (outcome : Outcome) → IsLoaded (Some files) r.constraints constraints → IsLoaded (Some files) r.file source
+module _ (files : Files) (r : Request) (loaded : List (List ℕ)) (first : IsThere files r.constraints) (whole : Bool) where
+  -- a fault of expansion that is one of the source
+  faulty_text : (fault : PreFault) → Source (details_of (stopped loaded fault)) ≡ stopped loaded fault → Expands (Some files) first_state (first_items r.files) loaded (Err fault) → IsCauseFor files r (status_at (Source (details_of (stopped loaded fault))) whole)
+  faulty_text fault said expands =
+      cause_of_source files r (details_of (stopped loaded fault)) (first, (details_of (stopped loaded fault), (loaded, inl (record { fault = fault; expands = expands; outcome_is = inl said })))) whole
+
+  cause_of_stop : (fault : PreFault) → Expands (Some files) first_state (first_items r.files) loaded (Err fault) → IsCauseFor files r (status_at (stopped loaded fault) whole)
+  cause_of_stop pre.Memory expands = cause_of_memory files r whole
+  cause_of_stop (pre.Absent name) expands = cause_of_absent files r name (inr (first, (name, loaded, expands))) whole
+  cause_of_stop (pre.Read name) expands = cause_of_read files r name whole
+  cause_of_stop (pre.TooLong name) expands = faulty_text (pre.TooLong name) refl expands
+  cause_of_stop (pre.UnknownDirective place) expands = faulty_text (pre.UnknownDirective place) refl expands
+  cause_of_stop (pre.Unbalanced place) expands = faulty_text (pre.Unbalanced place) refl expands
+  cause_of_stop (pre.BadMacroUse place) expands = faulty_text (pre.BadMacroUse place) refl expands
+  cause_of_stop (pre.MacroLoop name place) expands = faulty_text (pre.MacroLoop name place) refl expands
+  cause_of_stop (pre.TooDeep place) expands = faulty_text (pre.TooDeep place) refl expands
+
+  module _ (known : State) (expand : ExpandTo (Some files) r loaded known) where
+    -- a fault of lexing that is one of the source
+    faulty_tokens : (fault : LexFault) → Source (details_of (unread known.files fault)) ≡ unread known.files fault → IsFault known.bytes (known.places ++ known.end ∷ []) fault → IsCauseFor files r (status_at (Source (details_of (unread known.files fault))) whole)
+    faulty_tokens fault said is =
+        cause_of_source files r (details_of (unread known.files fault)) (first, (details_of (unread known.files fault), (loaded, inr (known, expand, record { fault = fault; is_fault = is; outcome_is = inl said })))) whole
+
+    cause_of_unread : (fault : LexFault) → IsFault known.bytes (known.places ++ known.end ∷ []) fault → IsCauseFor files r (status_at (unread known.files fault) whole)
+    cause_of_unread lex.Memory is = cause_of_memory files r whole
+    cause_of_unread (lex.BadByte place) is = faulty_tokens (lex.BadByte place) refl is
+    cause_of_unread (lex.BadNumber place) is = faulty_tokens (lex.BadNumber place) refl is
+    cause_of_unread (lex.OpenComment place) is = faulty_tokens (lex.OpenComment place) refl is
+    cause_of_unread (lex.OpenString place) is = faulty_tokens (lex.OpenString place) refl is
+
+unformed : (files : Files) (r : Request) (constraints : List ℕ) (n : List ℕ) (are : AreRead files r) → are.constraints ≡ constraints → IsJudgement r constraints are.source (NotYet n) → IsUnformed files r
+unformed files r constraints n are same (inl is) = record { are_read = are; unformed = inl is.1 }
+unformed files r constraints n are same (inr is) = record { are_read = are; unformed = inr (subst (λ (c : List ℕ). DeclaresNone r.top c are.source) (sym same) is.1) }
+
+cause_with_all : (files : Files) (r : Request) (constraints : List ℕ) (loaded source : List (List ℕ)) (outcome : Outcome) → IsLoaded (Some files) r.constraints constraints → HasTokens (Some files) r loaded source
     → IsJudgement r constraints source outcome → (whole : Bool) → IsCauseFor files r (status_at outcome whole)
-cause_with_both files r constraints source Usage c s is whole = absurd is
-cause_with_both files r constraints source (Absent n) c s is whole = absurd is
-cause_with_both files r constraints source (Read n) c s is whole = absurd is
-cause_with_both files r constraints source (NotYet n) c s is true = unformed files r constraints source n (loaded_both files r constraints source c s) c s is
-cause_with_both files r constraints source (NotYet n) c s is false = unformed files r constraints source n (loaded_both files r constraints source c s) c s is
-cause_with_both files r constraints source Memory c s is true = tt
-cause_with_both files r constraints source Memory c s is false = tt
-cause_with_both files r constraints source (Judged report crossing) c s is whole = cause_of_judged files r report crossing (judged_as files r constraints source report crossing c s is) whole
+cause_with_all files r constraints loaded source Usage c t is whole = absurd is
+cause_with_all files r constraints loaded source (Absent n) c t is whole = absurd is
+cause_with_all files r constraints loaded source (Read n) c t is whole = absurd is
+cause_with_all files r constraints loaded source (Source details) c t is whole = absurd is
+cause_with_all files r constraints loaded source (NotYet n) c t is whole =
+    cause_of_notyet files r n (inr (unformed files r constraints n (record { constraints = constraints; loaded = loaded; source = source; has_constraints = c; has_tokens = t }) refl is)) whole
+cause_with_all files r constraints loaded source Memory c t is whole = cause_of_memory files r whole
+cause_with_all files r constraints loaded source (Judged report crossing) c t is whole = cause_of_judged files r report crossing (judged_as files r constraints loaded source report crossing c t is) whole
 
 cause_of_ends : (files : Files) (r : Request) (outcome : Outcome) (made : List Call) → Ends (Some files) r outcome made → (whole : Bool) → IsCauseFor files r (status_at outcome whole)
 cause_of_ends files r outcome made (at_constraints is made-is) whole = cause_at_constraints files r outcome is whole
-cause_of_ends files r outcome made (at_file constraints loaded is made-is) whole = cause_at_file files r outcome (there files r.constraints constraints loaded) is whole
-cause_of_ends files r outcome made (with_both constraints source c s is made-is) whole = cause_with_both files r constraints source outcome c s is whole
+cause_of_ends files r outcome made (at_sources constraints loaded c is made-is) whole =
+    cause_of_either files r outcome (stopped loaded is.fault) whole is.outcome_is (cause_of_stop files r loaded (there files r.constraints constraints c) whole is.fault is.expands)
+cause_of_ends files r outcome made (at_tokens constraints loaded known c expand is made-is) whole =
+    cause_of_either files r outcome (unread known.files is.fault) whole is.outcome_is (cause_of_unread files r loaded (there files r.constraints constraints c) whole known expand is.fault is.is_fault)
+cause_of_ends files r outcome made (with_all constraints loaded source c t is made-is) whole = cause_with_all files r constraints loaded source outcome c t is whole
 
 cause_of_request : (files : Files) (asked : Option Request) (outcome : Outcome) (made : List Call) → EndsRequest (Some files) asked outcome made → (whole : Bool) → IsCauseOf files asked (status_at outcome whole)
 cause_of_request files None outcome made ends true = ap status_of ends.0
@@ -127,3 +238,41 @@ pub cause_of_call : (told : Option Files) (words : List (List ℕ)) (outcome : O
 cause_of_call None words outcome made status old new f f' ends says = tt
 cause_of_call (Some files) words outcome made status old new f f' ends says =
     subst (λ (s : Status). IsCauseOf files (request_of words) s) (sym says.status_is) (cause_of_request files (request_of words) outcome made ends says.whole)
+
+-- what a fault of expansion counts, the call counts
+counts_of_stop : (files : List (List ℕ)) (fault : PreFault) (a b d f g h : ℕ) → a ≤ b → b ≤ d → f ≤ g → g ≤ h → CountsFault fault b d g h → CountsRefusal (stopped files fault) a d f h
+counts_of_stop files pre.Memory a b d f g h up up' rise rise' counts = tt
+counts_of_stop files (pre.Absent name) a b d f g h up up' rise rise' counts = Rose-widen a b d d up up' counts (omega arith)
+counts_of_stop files (pre.Read name) a b d f g h up up' rise rise' counts = Rose-widen f g h h rise rise' counts (omega arith)
+counts_of_stop files (pre.TooLong name) a b d f g h up up' rise rise' counts = tt
+counts_of_stop files (pre.UnknownDirective place) a b d f g h up up' rise rise' counts = tt
+counts_of_stop files (pre.Unbalanced place) a b d f g h up up' rise rise' counts = tt
+counts_of_stop files (pre.BadMacroUse place) a b d f g h up up' rise rise' counts = tt
+counts_of_stop files (pre.MacroLoop name place) a b d f g h up up' rise rise' counts = tt
+counts_of_stop files (pre.TooDeep place) a b d f g h up up' rise rise' counts = tt
+
+pub counts_stopped : (outcome : Outcome) (files : List (List ℕ)) (fault : PreFault) (a b d f g h : ℕ) → a ≤ b → b ≤ d → f ≤ g → g ≤ h → CountsFault fault b d g h → IsOrMemory outcome (stopped files fault) → CountsRefusal outcome a d f h
+counts_stopped outcome files fault a b d f g h up up' rise rise' counts (inl is) = subst (λ (o : Outcome). CountsRefusal o a d f h) (sym is) (counts_of_stop files fault a b d f g h up up' rise rise' counts)
+counts_stopped outcome files fault a b d f g h up up' rise rise' counts (inr is) = subst (λ (o : Outcome). CountsRefusal o a d f h) (sym is) tt
+
+-- a text counts nothing
+counts_of_unread : (files : List (List ℕ)) (fault : LexFault) (a d f h : ℕ) → CountsRefusal (unread files fault) a d f h
+counts_of_unread files lex.Memory a d f h = tt
+counts_of_unread files (lex.BadByte place) a d f h = tt
+counts_of_unread files (lex.BadNumber place) a d f h = tt
+counts_of_unread files (lex.OpenComment place) a d f h = tt
+counts_of_unread files (lex.OpenString place) a d f h = tt
+
+counts_judged : (r : Request) (constraints : List ℕ) (source : List (List ℕ)) (outcome : Outcome) (a d f h : ℕ) → IsJudgement r constraints source outcome → CountsRefusal outcome a d f h
+counts_judged r constraints source Usage a d f h is = tt
+counts_judged r constraints source (Absent n) a d f h is = absurd is
+counts_judged r constraints source (Read n) a d f h is = absurd is
+counts_judged r constraints source (Source details) a d f h is = tt
+counts_judged r constraints source (NotYet n) a d f h is = tt
+counts_judged r constraints source Memory a d f h is = tt
+counts_judged r constraints source (Judged report crossing) a d f h is = tt
+
+pub counts_text : (r : Request) (constraints : List ℕ) (text : Text) (outcome : Outcome) (a d f h : ℕ) → EndsText r constraints text outcome → CountsRefusal outcome a d f h
+counts_text r constraints text outcome a d f h (no_tokens fault is (inl said)) = subst (λ (o : Outcome). CountsRefusal o a d f h) (sym said) (counts_of_unread (texts text.files) fault a d f h)
+counts_text r constraints text outcome a d f h (no_tokens fault is (inr want)) = subst (λ (o : Outcome). CountsRefusal o a d f h) (sym want) tt
+counts_text r constraints text outcome a d f h (judged tokens are is) = counts_judged r constraints (lexemes text.bytes tokens) outcome a d f h is

@@ -1,9 +1,18 @@
 -- Serves specs/Headline.antt: a call that answers clean has judged the one design that the files spell, and that design is safe.
-use Rattle.std.proofs.Common.{◌≡◌, ℕ, Bool, true, false, List, Option, Some, None, refl, sym, subst, ◌∙◌}
+use Rattle.std.proofs.Common.{◌≡◌, ℕ, Bool, true, false, List, Option, Some, None, Result, Ok, Err, refl, sym, ap, subst, ◌∙◌, inl, inr}
 use Rattle.std.specs.Prelude.{IfSome}
 use Rattle.rdc_outside.specs.Shelf.{Files, Call}
 use Rattle.rdc_outside.specs.declared.outcome.Status.{Status}
 use Rattle.rdc_outside.specs.declared.outcome.Status.TheVariants as statuses
+use Rattle.vlog_pre.specs.declared.fault.PreFault.{PreFault}
+use Rattle.vlog_pre.specs.declared.fault.PreFault.TheVariants as pre
+use Rattle.vlog_pre.specs.Known.{State}
+use Rattle.vlog_pre.specs.Answer.{NothingFails}
+use Rattle.vlog_pre.proofs.OneLemmas.{one_answer_is}
+use Rattle.vlog_lex.specs.declared.fault.LexFault.{LexFault}
+use Rattle.vlog_lex.specs.declared.fault.LexFault.TheVariants as lex
+use Rattle.vlog_lex.specs.Tokens.{AreTokens}
+use Rattle.vlog_lex.proofs.TokenLemmas.{one_list_at}
 use Rattle.thin_form.specs.Design.{Design}
 use Rattle.thin_form.specs.Source.{Spells, IsOneDesign}
 use Rattle.thin_cons.specs.Roles.{Declares}
@@ -11,8 +20,10 @@ use Rattle.thin_cons.specs.declared.role.Role.{Role}
 use Rattle.thin_cons.proofs.Declared.{one_declaration}
 use Rattle.run_model.specs.Safe.{IsSafe}
 use Rattle.rdcsign.specs.Request.{Request, request_of}
-use Rattle.rdcsign.specs.Outcome.{Outcome, Usage, Absent, Read, NotYet, Memory, Judged, Says}
-use Rattle.rdcsign.specs.Ends.{IsLoaded, IsReport, Ends, EndsRequest, at_constraints, at_file, with_both}
+use Rattle.rdcsign.specs.Outcome.{Outcome, Usage, Absent, Read, Source, NotYet, Memory, Judged, Says}
+use Rattle.rdcsign.specs.Faults.{stopped, unread}
+use Rattle.rdcsign.specs.Lexemes.{lexemes}
+use Rattle.rdcsign.specs.Ends.{IsLoaded, IsOrMemory, HasTokens, IsReport, Ends, EndsRequest, at_constraints, at_sources, at_tokens, with_all}
 use Rattle.rdcsign.specs.Signoff.{Spell}
 use Rattle.rdcsign.specs.DesignMachine.{machine_of}
 use Rattle.rdcsign.specs.Headline.{CleanIsSafe}
@@ -25,13 +36,30 @@ some_bytes b = Some b
 same_bytes : (a b : List ℕ) → some_bytes a ≡ some_bytes b → a ≡ b
 same_bytes a b e = cc
 
+abbrev some_state : State → Result State PreFault
+some_state known = Ok known
+
+same_state : (a b : State) → some_state a ≡ some_state b → a ≡ b
+same_state a b e = cc
+
+nothing_fails : (known : State) → NothingFails (Ok known)
+nothing_fails known = record { reads = λ name is. absurd cc; suffices = λ is. absurd cc }
+
+-- told files have one list of tokens
+one_source : (files : Files) (r : Request) (loaded others source words : List (List ℕ)) → HasTokens (Some files) r loaded source → HasTokens (Some files) r others words → source ≡ words
+one_source files r loaded others source words a b =
+    let both = one_answer_is files r.files loaded others (Ok a.known) (Ok b.known) (nothing_fails a.known) (nothing_fails b.known) a.expand b.expand in
+    let bytes-is : a.known.bytes ≡ b.known.bytes = ap (λ (s : State). s.bytes) (same_state a.known b.known both.0) in
+    let tokens-is = one_list_at 0 b.known.bytes a.tokens b.tokens (subst (λ (bs : List ℕ). AreTokens 0 bs a.tokens) bytes-is a.are_tokens) b.are_tokens in
+    a.words_are ∙ ap (λ (bs : List ℕ). lexemes bs a.tokens) bytes-is ∙ ap (lexemes b.known.bytes) tokens-is ∙ sym b.words_are
+
 -- the report of a clean call is that of the design that the files spell
-spelled_is_safe : IsOneDesign → (files : Files) (r : Request) (constraints source report : List ℕ) (crossing : Bool) → crossing ≡ false → IsLoaded (Some files) r.constraints constraints
-    → IsLoaded (Some files) r.file source → IsReport r.top constraints source report crossing → (design : Design) (roles : List Role) → Spell files r design roles → IsSafe (machine_of design roles)
-spelled_is_safe one files r constraints source report crossing clean c s is design roles spell =
-    let constraints-is : constraints ≡ spell.loaded.constraints = same_bytes constraints spell.loaded.constraints (sym c.value ∙ spell.loaded.has_constraints) in
-    let source-is : source ≡ spell.loaded.source = same_bytes source spell.loaded.source (sym s.value ∙ spell.loaded.has_source) in
-    let spells : Spells r.top source design = subst (λ (bytes : List ℕ). Spells r.top bytes design) (sym source-is) spell.of_form.design_is in
+spelled_is_safe : IsOneDesign → (files : Files) (r : Request) (constraints : List ℕ) (loaded source : List (List ℕ)) (report : List ℕ) (crossing : Bool) → crossing ≡ false → IsLoaded (Some files) r.constraints constraints
+    → HasTokens (Some files) r loaded source → IsReport r.top constraints source report crossing → (design : Design) (roles : List Role) → Spell files r design roles → IsSafe (machine_of design roles)
+spelled_is_safe one files r constraints loaded source report crossing clean c t is design roles spell =
+    let constraints-is : constraints ≡ spell.are_read.constraints = same_bytes constraints spell.are_read.constraints (sym c.value ∙ spell.are_read.has_constraints.value) in
+    let source-is : source ≡ spell.are_read.source = one_source files r loaded spell.are_read.loaded source spell.are_read.source t spell.are_read.has_tokens in
+    let spells : Spells r.top source design = subst (λ (words : List (List ℕ)). Spells r.top words design) (sym source-is) spell.of_form.design_is in
     let design-is : is.design ≡ design = one r.top source is.design design is.of_form.design_is spells in
     let declares : Declares design constraints roles = subst (λ (bytes : List ℕ). Declares design bytes roles) (sym constraints-is) spell.of_form.roles_are in
     let declares' : Declares is.design constraints roles = subst (λ (d : Design). Declares d constraints roles) (sym design-is) declares in
@@ -39,12 +67,36 @@ spelled_is_safe one files r constraints source report crossing clean c s is desi
     let safe = design_is_safe is.design constraints is.roles is.closed is.of_form.roles_are (sym is.verdict ∙ clean) in
     subst (λ (d : Design). IsSafe (machine_of d roles)) design-is (subst (λ (list : List Role). IsSafe (machine_of is.design list)) roles-is safe)
 
--- a judgement comes with both files in hand
+-- no fault is a judgement
+no_stop : (files : List (List ℕ)) (fault : PreFault) (report : List ℕ) (crossing : Bool) → Judged report crossing ≡ stopped files fault → ⊥
+no_stop files pre.Memory report crossing is = absurd cc
+no_stop files (pre.Absent name) report crossing is = absurd cc
+no_stop files (pre.Read name) report crossing is = absurd cc
+no_stop files (pre.TooLong name) report crossing is = absurd cc
+no_stop files (pre.UnknownDirective place) report crossing is = absurd cc
+no_stop files (pre.Unbalanced place) report crossing is = absurd cc
+no_stop files (pre.BadMacroUse place) report crossing is = absurd cc
+no_stop files (pre.MacroLoop name place) report crossing is = absurd cc
+no_stop files (pre.TooDeep place) report crossing is = absurd cc
+
+no_unread : (files : List (List ℕ)) (fault : LexFault) (report : List ℕ) (crossing : Bool) → Judged report crossing ≡ unread files fault → ⊥
+no_unread files lex.Memory report crossing is = absurd cc
+no_unread files (lex.BadByte place) report crossing is = absurd cc
+no_unread files (lex.BadNumber place) report crossing is = absurd cc
+no_unread files (lex.OpenComment place) report crossing is = absurd cc
+no_unread files (lex.OpenString place) report crossing is = absurd cc
+
+no_either : (wanted : Outcome) (report : List ℕ) (crossing : Bool) → (Judged report crossing ≡ wanted → ⊥) → IsOrMemory (Judged report crossing) wanted → ⊥
+no_either wanted report crossing none (inl is) = none is
+no_either wanted report crossing none (inr is) = absurd cc
+
+-- a judgement comes with all in hand
 judged_is_safe : IsOneDesign → (files : Files) (r : Request) (report : List ℕ) (crossing : Bool) (made : List Call) → crossing ≡ false → Ends (Some files) r (Judged report crossing) made
     → (design : Design) (roles : List Role) → Spell files r design roles → IsSafe (machine_of design roles)
 judged_is_safe one files r report crossing made clean (at_constraints is made-is) = absurd is
-judged_is_safe one files r report crossing made clean (at_file constraints loaded is made-is) = absurd is
-judged_is_safe one files r report crossing made clean (with_both constraints source c s is made-is) = spelled_is_safe one files r constraints source report crossing clean c s is
+judged_is_safe one files r report crossing made clean (at_sources constraints loaded c is made-is) = absurd (no_either (stopped loaded is.fault) report crossing (no_stop loaded is.fault report crossing) is.outcome_is)
+judged_is_safe one files r report crossing made clean (at_tokens constraints loaded known c expand is made-is) = absurd (no_either (unread known.files is.fault) report crossing (no_unread known.files is.fault report crossing) is.outcome_is)
+judged_is_safe one files r report crossing made clean (with_all constraints loaded source c t is made-is) = spelled_is_safe one files r constraints loaded source report crossing clean c t is
 
 -- Clean is the status of a judgement without a crossing alone
 clean_end_is_safe : IsOneDesign → (files : Files) (r : Request) (outcome : Outcome) (made : List Call) (whole : Bool) → statuses.Clean ≡ status_at outcome whole → Ends (Some files) r outcome made
@@ -55,6 +107,8 @@ clean_end_is_safe one files r (Absent n) made true e = absurd cc
 clean_end_is_safe one files r (Absent n) made false e = absurd cc
 clean_end_is_safe one files r (Read n) made true e = absurd cc
 clean_end_is_safe one files r (Read n) made false e = absurd cc
+clean_end_is_safe one files r (Source details) made true e = absurd cc
+clean_end_is_safe one files r (Source details) made false e = absurd cc
 clean_end_is_safe one files r (NotYet n) made true e = absurd cc
 clean_end_is_safe one files r (NotYet n) made false e = absurd cc
 clean_end_is_safe one files r Memory made true e = absurd cc

@@ -6,6 +6,8 @@ pub mod Origin
 pub mod Report
 pub mod Draft
 pub mod Outcome
+pub mod Faults
+pub mod Lexemes
 pub mod Ends
 pub mod Loads
 pub mod Answers

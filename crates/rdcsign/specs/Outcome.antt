@@ -9,6 +9,8 @@ use Rattle.rdc_outside.specs.Sink.{written_with}
 use Rattle.rdc_outside.specs.declared.outcome.Status.{Status}
 use Rattle.rdc_outside.specs.declared.outcome.Status.TheVariants as statuses
 use Rattle.rdcsign.specs.Report.{line}
+use Rattle.rdcsign.specs.declared.refusal.Name.{Name}
+use Rattle.rdcsign.specs.declared.refusal.Name.TheVariants as names
 use Rattle.rdcsign.specs.declared.refusal.Refusal.{Refusal}
 use Rattle.rdcsign.specs.declared.refusal.Refusal.TheVariants as refusals
 
@@ -20,6 +22,8 @@ pub data Outcome : Type 0 where
   Absent : (name : List ℕ) → Outcome
   -- the shelf fails at a load
   Read : (name : List ℕ) → Outcome
+  -- the source is faulty: what is said of it
+  Source : (details : List ℕ) → Outcome
   -- a file is not of the form that is built
   NotYet : (name : List ℕ) → Outcome
   -- memory ran out
@@ -32,6 +36,7 @@ abbrev pub text_of : Outcome → List ℕ
 text_of Usage = line (codes "refused usage")
 text_of (Absent name) = line (codes "refused absent " ++ name)
 text_of (Read name) = line (codes "refused read " ++ name)
+text_of (Source details) = line (codes "refused source " ++ details)
 text_of (NotYet name) = line (codes "refused notyet " ++ name)
 text_of Memory = line (codes "refused memory")
 text_of (Judged report crossing) = report
@@ -41,6 +46,7 @@ abbrev pub status_of : Outcome → Status
 status_of Usage = statuses.Usage
 status_of (Absent name) = statuses.Absent
 status_of (Read name) = statuses.Read
+status_of (Source details) = statuses.Source
 status_of (NotYet name) = statuses.NotYet
 status_of Memory = statuses.Memory
 status_of (Judged report crossing) = if crossing then statuses.Hazard else statuses.Clean
@@ -50,6 +56,7 @@ abbrev pub cut_status : Outcome → Status
 cut_status Usage = statuses.Usage
 cut_status (Absent name) = statuses.Absent
 cut_status (Read name) = statuses.Read
+cut_status (Source details) = statuses.Source
 cut_status (NotYet name) = statuses.NotYet
 cut_status Memory = statuses.Memory
 cut_status (Judged report crossing) = statuses.Write
@@ -76,10 +83,16 @@ pub record Says (outcome : Outcome) (status : Status) (old new : Option (List �
   pub text : Puts (text_of outcome) whole old new faults faults'
   pub status_is : status ≡ (if whole then status_of outcome else cut_status outcome)
 
+-- a name, without where it lies in memory
+abbrev pub name_of : Name → List ℕ
+name_of (names.Asked name) = name.now
+name_of (names.Met name) = name
+
 -- a refusal, without where its names lie in memory
 abbrev pub refused : Refusal → Outcome
 refused refusals.Usage = Usage
-refused (refusals.Absent name) = Absent name.now
-refused (refusals.Read name) = Read name.now
+refused (refusals.Absent name) = Absent (name_of name)
+refused (refusals.Read name) = Read (name_of name)
+refused (refusals.Source details) = Source details.items
 refused (refusals.NotYet name) = NotYet name.now
 refused refusals.Memory = Memory

@@ -1,18 +1,21 @@
 -- What one call of the program does: how it ends, what it says, which loads it makes, and when each status comes.
 --     SignsOff      the whole call
---     IsThere, IsTooBig, IsJudgedAs      what the told files say of a request
+--     AreRead, Spell, IsJudgedAs, IsMissing, IsFaulty, IsUnformed      what the told files say of a request
 --     IsCause      when each status comes
-use Rattle.std.specs.Prelude.{◌≡◌, ◌<◌, ◌≤◌, ◌⊎◌, ℕ, Bool, true, false, List, length, Option, Some, None, IsSomeAnd}
+use Rattle.std.specs.Prelude.{◌≡◌, ◌<◌, ◌≤◌, ◌⊎◌, ℕ, Bool, true, false, List, length, Option, Some, None, Ok, Err, IsSomeAnd}
 use Rattle.rdc_outside.specs.Shelf.{Files, Calls, Call}
 use Rattle.rdc_outside.specs.declared.outcome.Status.{Status}
 use Rattle.rdc_outside.specs.declared.outcome.Status.TheVariants as statuses
+use Rattle.vlog_pre.specs.declared.fault.PreFault.TheVariants.{Absent}
+use Rattle.vlog_pre.specs.Known.{State}
+use Rattle.vlog_pre.specs.Expansion.{Expands, first_state, first_items}
 use Rattle.thin_form.specs.Design.{Design}
 use Rattle.thin_cons.specs.declared.role.Role.{Role}
 use Rattle.rdcsign.specs.declared.loading.TheConstants.{MOST}
 use Rattle.rdcsign.specs.Request.{Request, request_of}
 use Rattle.rdcsign.specs.Verdict.{crosses}
-use Rattle.rdcsign.specs.Outcome.{Outcome, Says}
-use Rattle.rdcsign.specs.Ends.{SpellsNone, DeclaresNone, IsOfForm, EndsCall}
+use Rattle.rdcsign.specs.Outcome.{Outcome, Source, Says}
+use Rattle.rdcsign.specs.Ends.{IsLoaded, IsStopped, ExpandTo, IsUnread, HasTokens, SpellsNone, DeclaresNone, IsOfForm, EndsCall}
 use Rattle.rdcsign.specs.Loads.{with_loads}
 
 -- a call: how it ends, with its loads in order, and what it leaves on the sink
@@ -31,19 +34,18 @@ IsThere files name = IsSomeAnd (files name) (λ bytes. length bytes ≤ MOST)
 abbrev pub IsTooBig : Files → List ℕ → Type 0
 IsTooBig files name = IsSomeAnd (files name) (λ bytes. MOST < length bytes)
 
--- both files are there, and not too big
-pub record AreLoaded (files : Files) (r : Request) : Type 0 where
+-- the constraints are there and not too big, and the sources have tokens
+pub record AreRead (files : Files) (r : Request) : Type 0 where
   pub constraints : List ℕ
-  pub source : List ℕ
-  pub has_constraints : files r.constraints ≡ Some constraints
-  pub has_source : files r.file ≡ Some source
-  pub constraints_fit : length constraints ≤ MOST
-  pub source_fits : length source ≤ MOST
+  pub loaded : List (List ℕ)
+  pub source : List (List ℕ)
+  pub has_constraints : IsLoaded (Some files) r.constraints constraints
+  pub has_tokens : HasTokens (Some files) r loaded source
 
 -- the files of the request spell this design, and give its sources these roles
 pub record Spell (files : Files) (r : Request) (design : Design) (roles : List Role) : Type 0 where
-  pub loaded : AreLoaded files r
-  pub of_form : IsOfForm r.top loaded.constraints loaded.source design roles
+  pub are_read : AreRead files r
+  pub of_form : IsOfForm r.top are_read.constraints are_read.source design roles
 
 -- the files of the request spell a design in which an edge crosses, or none does
 pub record IsJudgedAs (crossing : Bool) (files : Files) (r : Request) : Type 0 where
@@ -52,25 +54,32 @@ pub record IsJudgedAs (crossing : Bool) (files : Files) (r : Request) : Type 0 w
   pub spelled : Spell files r design roles
   pub verdict : crosses design roles ≡ crossing
 
--- the first file that can't be loaded is missing
+-- the first file that can't be loaded, given or included, is missing
 abbrev pub IsMissing : Files → Request → Type 0
-IsMissing files r = (files r.constraints ≡ None) ⊎ IsThere files r.constraints × (files r.file ≡ None)
+IsMissing files r = (files r.constraints ≡ None)
+    ⊎ IsThere files r.constraints × ((name : List ℕ) × (loaded : List (List ℕ)) × Expands (Some files) first_state (first_items r.files) loaded (Err (Absent name)))
 
--- the first file that can't be loaded is too big
-abbrev pub IsExcessive : Files → Request → Type 0
-IsExcessive files r = IsTooBig files r.constraints ⊎ IsThere files r.constraints × IsTooBig files r.file
+-- the sources have a fault of expansion or of lexing, of which this is said
+abbrev pub IsFaultySource : Files → Request → List ℕ → Type 0
+IsFaultySource files r details = (loaded : List (List ℕ)) × (IsStopped (Some files) r loaded (Source details)
+    ⊎ ((known : State) × ExpandTo (Some files) r loaded known × IsUnread known (Source details)))
 
--- both files are there, and the source spells no design or the constraints give it no roles
+-- the constraints are there and not too big, and the source is faulty
+abbrev pub IsFaulty : Files → Request → Type 0
+IsFaulty files r = IsThere files r.constraints × ((details : List ℕ) × IsFaultySource files r details)
+
+-- the constraints are there, and the sources' tokens spell no design or the constraints give it no roles
 pub record IsUnformed (files : Files) (r : Request) : Type 0 where
-  pub loaded : AreLoaded files r
-  pub unformed : SpellsNone r.top loaded.source ⊎ DeclaresNone r.top loaded.constraints loaded.source
+  pub are_read : AreRead files r
+  pub unformed : SpellsNone r.top are_read.source ⊎ DeclaresNone r.top are_read.constraints are_read.source
 
 -- when each status comes for a request over told files; no file says when memory or the outside fails
 abbrev pub IsCauseFor : Files → Request → Status → Type 0
 IsCauseFor files r statuses.Clean = IsJudgedAs false files r
 IsCauseFor files r statuses.Hazard = IsJudgedAs true files r
+IsCauseFor files r statuses.Source = IsFaulty files r
 IsCauseFor files r statuses.Absent = IsMissing files r
-IsCauseFor files r statuses.NotYet = IsExcessive files r ⊎ IsUnformed files r
+IsCauseFor files r statuses.NotYet = IsTooBig files r.constraints ⊎ IsUnformed files r
 IsCauseFor files r statuses.Write = IsJudgedAs false files r ⊎ IsJudgedAs true files r
 IsCauseFor files r statuses.Read = Unit {0}
 IsCauseFor files r statuses.Memory = Unit {0}

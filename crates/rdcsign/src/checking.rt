@@ -1,36 +1,40 @@
-//! The work of a request: its two files, and the judgement on what they say.
+//! The work of a request: its files, and the judgement on what they say.
 
-ghost use Rattle.std.specs.Prelude.{◌≡◌, ◌≤◌, ℕ, length, IfOk, IfErr};
+ghost use Rattle.std.specs.Prelude.{◌≡◌, ◌<◌, ◌+◌, ◌^◌, ℕ, length, IfOk, IfErr};
+ghost use Rattle.thin_tree.specs.Written as written;
 ghost use Rattle.thin_form.specs.Source.{Spells};
 ghost use Rattle.thin_form.specs.Netlist.{design_of};
 ghost use Rattle.thin_cons.specs.Roles.{Declares};
-ghost use Rattle.rdcsign.specs.declared.loading.TheConstants.{MOST};
 ghost use Rattle.rdcsign.specs.Request.{seen, texts};
 ghost use Rattle.rdcsign.specs.Outcome.{refused};
 ghost use Rattle.rdcsign.specs.Closed.{IsClosed};
 ghost use Rattle.rdcsign.specs.Ends.{IsJudgement};
 ghost use Rattle.rdcsign.specs.Loads.{CountsRefusal};
-ghost use Rattle.rdcsign.specs.Answers.{outcome_of, IsNoDesign, AreNoRoles, EndsListed, EndsWords};
+ghost use Rattle.rdcsign.specs.Answers.{outcome_of, IsNoDesign, AreNoRoles, EndsText, EndsListed, EndsWords};
 
+use crate::faults::{stopped, unread};
+use crate::lexemes::lexemes;
 use crate::loading::load_file;
 use crate::refusal::Refusal;
 use crate::report::{Judgement, judge};
-use crate::request::{Request, read_words};
-use rdc_outside::Shelf;
+use crate::request::{Request, first_of, read_words};
+use rdc_outside::{Shelf, Text};
 use std::alloc::Global;
 use thin_cons::{ConsFault, Roles, declare};
 use thin_form::{FormFault, Netlist};
+use vlog_lex::lex;
+use vlog_pre::expand;
 
-/// The design that the source spells.
+/// The design that the tokens spell.
 fn read_design<'a, 'b>(
     alloc: Global,
     request: &Request<'a>,
-    source: &'b [u8],
+    source: &[&'b [u8]],
 ) -> Result<Netlist<'b>, Refusal<'a>>
-    requires { length source.now ≤ MOST }
-    ensures design { IfOk result (λ d. Spells request.now.top.now source.now (design_of d)) }
+    requires { length source.now < 2 ^ 32 }
+    ensures design { IfOk result (λ d. Spells request.now.top.now (written.texts source.now) (design_of d)) }
     ensures closed { IfOk result (λ d. IsClosed (design_of d)) }
-    ensures refused { IfErr result (λ r. IsNoDesign (seen request.now) source.now (refused r)) }
+    ensures refused { IfErr result (λ r. IsNoDesign (seen request.now) (written.texts source.now) (refused r)) }
 {
     match thin_form::read(alloc, request.top.as_bytes(), source) {
         Ok(design) => {
@@ -38,7 +42,7 @@ fn read_design<'a, 'b>(
             Ok(design)
         }
         Err(FormFault::Memory) => Err(Refusal::Memory),
-        Err(FormFault::NotOfForm) => Err(Refusal::NotYet(request.file)),
+        Err(FormFault::NotOfForm) => Err(Refusal::NotYet(first_of(request.files))),
     }
 }
 
@@ -60,15 +64,15 @@ fn read_roles<'a>(
     }
 }
 
-/// The judgement on the bytes of the two files. The source is looked at first.
-fn judge_bytes<'a>(
+/// The judgement on the tokens and the constraints. The tokens are looked at first.
+fn judge_tokens<'a>(
     alloc: Global,
     request: &Request<'a>,
     constraints: &[u8],
-    source: &[u8],
+    source: &[&[u8]],
 ) -> Result<Judgement, Refusal<'a>>
-    requires { length source.now ≤ MOST }
-    ensures { IsJudgement (seen request.now) constraints.now source.now (outcome_of result) }
+    requires { length source.now < 2 ^ 32 }
+    ensures { IsJudgement (seen request.now) constraints.now (written.texts source.now) (outcome_of result) }
 {
     let design = match read_design(alloc, request, source) {
         Ok(design) => design,
@@ -82,6 +86,28 @@ fn judge_bytes<'a>(
         Ok(judgement) => Ok(judgement),
         Err(_) => Err(Refusal::Memory),
     }
+}
+
+/// The judgement on the expanded sources and the constraints.
+fn judge_text<'a>(
+    alloc: Global,
+    request: &Request<'a>,
+    constraints: &[u8],
+    text: &Text,
+) -> Result<Judgement, Refusal<'a>>
+    requires placed { length text.now.places ≡ length text.now.bytes + 1 }
+    requires small { length text.now.bytes < 16777216 }
+    ensures { EndsText (seen request.now) constraints.now text.now (outcome_of result) }
+{
+    let tokens = match lex(alloc, text) {
+        Ok(tokens) => tokens,
+        Err(fault) => return Err(unread(alloc, text.files.as_slice(), fault)),
+    };
+    let source = match lexemes(alloc, text.bytes.as_slice(), &tokens) {
+        Ok(source) => source,
+        Err(_) => return Err(Refusal::Memory),
+    };
+    judge_tokens(alloc, request, constraints, &source)
 }
 
 /// What comes of a request.
@@ -98,11 +124,11 @@ fn check<'a, S: Shelf>(
         Ok(bytes) => bytes,
         Err(refusal) => return Err(refusal),
     };
-    let source = match load_file(alloc, shelf, request.file) {
-        Ok(bytes) => bytes,
-        Err(refusal) => return Err(refusal),
+    let text = match expand(alloc, shelf, request.files) {
+        Ok(text) => text,
+        Err(stop) => return Err(stopped(alloc, stop)),
     };
-    judge_bytes(alloc, request, &constraints, &source)
+    judge_text(alloc, request, &constraints, &text)
 }
 
 /// What comes of the words.

@@ -2,9 +2,9 @@
 
 ghost use Rattle.std.specs.Prelude.{◌≡◌, ◌≤◌, ◌++◌};
 ghost use Rattle.rdcsign.specs.Report.{line};
-ghost use Rattle.rdcsign.specs.Outcome.{Puts, Says, refused, Judged};
+ghost use Rattle.rdcsign.specs.Outcome.{Puts, Says, name_of, refused, Judged};
 
-use crate::refusal::Refusal;
+use crate::refusal::{Name, Refusal};
 use crate::report::Judgement;
 use rdc_outside::{Sink, Status, write_all_of};
 
@@ -29,11 +29,18 @@ fn put_line<K: Sink>(out: &mut K, kind: &[u8], name: &[u8]) -> bool
     put(out, b"\n")
 }
 
-/// The same, where the second part is a name.
-fn put_name<K: Sink>(out: &mut K, kind: &[u8], name: &str) -> bool
-    ensures { Puts (line (kind.now ++ name.now)) result (K.written out.old) (K.written out.new) (K.faults out.old) (K.faults out.new) }
+/// The same, where the second part is a word of the command line.
+fn put_word<K: Sink>(out: &mut K, kind: &[u8], word: &str) -> bool
+    ensures { Puts (line (kind.now ++ word.now)) result (K.written out.old) (K.written out.new) (K.faults out.old) (K.faults out.new) }
 {
-    put_line(out, kind, name.as_bytes())
+    put_line(out, kind, word.as_bytes())
+}
+
+/// The same, where the second part is the name of a file.
+fn put_name<K: Sink>(out: &mut K, kind: &[u8], name: &Name) -> bool
+    ensures { Puts (line (kind.now ++ name_of name.now)) result (K.written out.old) (K.written out.new) (K.faults out.old) (K.faults out.new) }
+{
+    put_line(out, kind, name.bytes())
 }
 
 /// Writes the line of a refusal. A sink that fails leaves the status as it is.
@@ -46,15 +53,19 @@ pub fn refuse<K: Sink>(out: &mut K, refusal: Refusal) -> Status
             Status::Usage
         }
         Refusal::Absent(name) => {
-            let _ = put_name(out, b"refused absent ", name);
+            let _ = put_name(out, b"refused absent ", &name);
             Status::Absent
         }
         Refusal::Read(name) => {
-            let _ = put_name(out, b"refused read ", name);
+            let _ = put_name(out, b"refused read ", &name);
             Status::Read
         }
+        Refusal::Source(details) => {
+            let _ = put_line(out, b"refused source ", &details);
+            Status::Source
+        }
         Refusal::NotYet(name) => {
-            let _ = put_name(out, b"refused notyet ", name);
+            let _ = put_word(out, b"refused notyet ", name);
             Status::NotYet
         }
         Refusal::Memory => {

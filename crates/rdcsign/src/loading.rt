@@ -1,11 +1,11 @@
-//! Loading the files of a request.
+//! Loading the constraints of a request.
 
 ghost use Rattle.std.specs.Prelude.{◌≡◌, ◌≤◌, ℕ, IfOk, IfErr};
 ghost use Rattle.rdcsign.specs.Outcome.{refused};
 ghost use Rattle.rdcsign.specs.Ends.{IsLoaded, IsRefusedLoad};
-ghost use Rattle.rdcsign.specs.Loads.{loads_of, with_loads, CountsRefusal};
+ghost use Rattle.rdcsign.specs.Loads.{load_of, with_loads, CountsRefusal};
 
-use crate::refusal::Refusal;
+use crate::refusal::{Name, Refusal};
 use rdc_outside::{LoadFault, Shelf};
 use std::alloc::Global;
 
@@ -22,7 +22,7 @@ pub fn load_file<'a, S: Shelf>(
     ensures refused { IfErr result (λ r. IsRefusedLoad (S.files shelf.old) name.now (refused r)) }
 
     ensures files { S.files shelf.new ≡ S.files shelf.old }
-    ensures listed { S.calls shelf.new ≡ with_loads (S.calls shelf.old) (loads_of name.now result) }
+    ensures listed { S.calls shelf.new ≡ with_loads (S.calls shelf.old) (load_of name.now result) }
 
     ensures counted { IfErr result (λ r. CountsRefusal (refused r) (S.absences shelf.old) (S.absences shelf.new) (S.faults shelf.old) (S.faults shelf.new)) }
     ensures faults { S.faults shelf.old ≤ S.faults shelf.new }
@@ -31,8 +31,8 @@ pub fn load_file<'a, S: Shelf>(
     match shelf.load(alloc, name, MOST) {
         Ok(bytes) => Ok(bytes),
         Err(LoadFault::Memory) => Err(Refusal::Memory),
-        Err(LoadFault::Absent) => Err(Refusal::Absent(name)),
+        Err(LoadFault::Absent) => Err(Refusal::Absent(Name::Asked(name))),
         Err(LoadFault::TooBig) => Err(Refusal::NotYet(name)),
-        Err(LoadFault::Failed) => Err(Refusal::Read(name)),
+        Err(LoadFault::Failed) => Err(Refusal::Read(Name::Asked(name))),
     }
 }

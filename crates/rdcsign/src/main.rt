@@ -7,6 +7,8 @@
 
 mod checking;
 mod conclusion;
+mod faults;
+mod lexemes;
 mod loading;
 mod origin;
 mod plain;

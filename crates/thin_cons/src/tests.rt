@@ -1,16 +1,25 @@
 //! Files by hand, and what they say of one design.
 
 use super::*;
-use std::alloc::Global;
+use std::alloc::{AllocError, Global};
 use std::test::Fail;
 use thin_form::{Netlist, read};
 
-const DESIGN: &[u8] = b"module m(input ca, input cb, input ra, input rb, input d, output reg q);
-  reg a;
-  always @(posedge ca or negedge ra) if (!ra) a <= 1'b0; else a <= d;
-  always @(posedge cb or negedge rb) if (!rb) q <= 1'b0; else q <= a;
+const DESIGN: &str = "module m ( input ca , input cb , input ra , input rb , input d , output reg q ) ;
+  reg a ;
+  always @ ( posedge ca or negedge ra ) if ( ! ra ) a <= 1'b0 ; else a <= d ;
+  always @ ( posedge cb or negedge rb ) if ( ! rb ) q <= 1'b0 ; else q <= a ;
 endmodule
 ";
+
+/// The tokens of a text in which blanks stand between them.
+fn tokens_of(alloc: Global, text: &str) -> Result<Vec<&[u8]>, AllocError> {
+    let mut tokens = Vec::new(alloc);
+    for token in text.split_whitespace() {
+        tokens.push(token.as_bytes())?;
+    }
+    Ok(tokens)
+}
 
 /// Whether the lines are a clock `ca` and a reset `ra` that is asserted low.
 fn are_two_lines(lines: &[Line]) -> bool {
@@ -71,7 +80,9 @@ fn is_refused(alloc: Global, design: &Netlist, file: &[u8]) -> bool {
 
 #[test]
 fn each_source_has_its_role(rt: HostRuntime) -> Result<(), Fail> {
-    let design = read(rt.alloc(), b"m", DESIGN).ok().ok_or("a design")?;
+    let tokens = tokens_of(rt.alloc(), DESIGN)?;
+    assert!(rt; tokens.len() < 1000);
+    let design = read(rt.alloc(), b"m", &tokens).ok().ok_or("a design")?;
     let file = b"rdc 1\nclock ca\nclock cb\nreset ra low\nreset rb low\n";
     let roles = declare(rt.alloc(), &design, file).ok().ok_or("roles")?;
     // the sources in name order: a, ca, cb, d, q, ra, rb
@@ -93,7 +104,9 @@ fn each_source_has_its_role(rt: HostRuntime) -> Result<(), Fail> {
 
 #[test]
 fn what_the_flops_do_not_meet_is_refused(rt: HostRuntime) -> Result<(), Fail> {
-    let design = read(rt.alloc(), b"m", DESIGN).ok().ok_or("a design")?;
+    let tokens = tokens_of(rt.alloc(), DESIGN)?;
+    assert!(rt; tokens.len() < 1000);
+    let design = read(rt.alloc(), b"m", &tokens).ok().ok_or("a design")?;
     let files = [
         b"rdc 1\nclock ca\nclock cb\nreset ra low\n".as_slice(),
         b"rdc 1\nclock ca\nreset ra low\nreset rb low\n",

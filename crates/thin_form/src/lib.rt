@@ -1,8 +1,8 @@
 //! The first form of source: one module of wires, gates and flops with asynchronous resets.
 //!
-//! `read` answers the design that a text spells, and refuses exactly the texts that spell none
-//! (`specs/Source.antt`). It takes any bytes, and always returns.
-//! Reading Verilog: stands on `thin_tree` for the tree. The first path of the program reads its one source by it.
+//! `read` answers the design that a text's tokens spell, and refuses exactly the tokens that spell none
+//! (`specs/Source.antt`). It takes any list of tokens, each as its bytes, and always returns.
+//! Reading Verilog: stands on `thin_tree` for the tree. The program reads its sources by it.
 #![tactic(auto)]
 
 mod assembly;

@@ -1,84 +1,89 @@
 //! The example by hand with its nodes, orders of wires, and each rule broken once.
 use super::*;
+use std::alloc::{AllocError, Global};
 use std::test::Fail;
 
 const EXAMPLE: &str =
-    "module m(input ca, input cb, input ra, input rb, input d, input e, output reg q, output w);\n  reg a;\n  wire n;\n  assign w = ~(n | a) & q;\n  assign n = a & ~e;\n  always @(posedge ca or negedge ra) if (!ra) a <= 1'b0; else a <= d;\n  always @(posedge cb or negedge rb) if (!rb) q <= 1'b0; else q <= n;\nendmodule\n";
+    "module m ( input ca , input cb , input ra , input rb , input d , input e , output reg q , output w ) ; reg a ; wire n ; assign w = ~ ( n | a ) & q ; assign n = a & ~ e ; always @ ( posedge ca or negedge ra ) if ( ! ra ) a <= 1'b0 ; else a <= d ; always @ ( posedge cb or negedge rb ) if ( ! rb ) q <= 1'b0 ; else q <= n ; endmodule";
 
 const HIGH: &str =
-    "// caf\u{e9}\nmodule m(input c,input r,output reg q);always@(posedge c or posedge r)if(r)q<=1'b1;else q<=q;endmodule// end";
+    "module m ( input c , input r , output reg q ) ; always @ ( posedge c or posedge r ) if ( r ) q <= 1'b1 ; else q <= q ; endmodule";
 
 const NOTHING_FOLDS: &str =
-    "module m(input c, input r, input a, output reg q); always @(posedge c or negedge r) if (!r) q <= 1'b0; else q <= a & ~a | q | q; endmodule";
+    "module m ( input c , input r , input a , output reg q ) ; always @ ( posedge c or negedge r ) if ( ! r ) q <= 1'b0 ; else q <= a & ~ a | q | q ; endmodule";
 
 const LATE: &str =
-    "module m(input a, output x, output y, output z); assign x = y & z; assign y = ~z; assign z = a; endmodule";
+    "module m ( input a , output x , output y , output z ) ; assign x = y & z ; assign y = ~ z ; assign z = a ; endmodule";
 
-const REFUSED: [&str; 39] = [
+const REFUSED: [&str; 35] = [
     // another module
-    "module n(input c); endmodule",
+    "module n ( input c ) ; endmodule",
     // a port is declared twice, and a register is a port
-    "module m(input c, input c); endmodule",
-    "module m(input c, input r, output reg q); reg q; always @(posedge c or negedge r) if (!r) q <= 1'b0; else q <= q; endmodule",
+    "module m ( input c , input c ) ; endmodule",
+    "module m ( input c , input r , output reg q ) ; reg q ; always @ ( posedge c or negedge r ) if ( ! r ) q <= 1'b0 ; else q <= q ; endmodule",
     // a name that is not declared is read, clocks, and is tested
-    "module m(input c, input r, output reg q); always @(posedge c or negedge r) if (!r) q <= 1'b0; else q <= d; endmodule",
-    "module m(input c, input r, output reg q); always @(posedge d or negedge r) if (!r) q <= 1'b0; else q <= q; endmodule",
-    "module m(input c, input r, output reg q); always @(posedge c or negedge d) if (!d) q <= 1'b0; else q <= q; endmodule",
+    "module m ( input c , input r , output reg q ) ; always @ ( posedge c or negedge r ) if ( ! r ) q <= 1'b0 ; else q <= d ; endmodule",
+    "module m ( input c , input r , output reg q ) ; always @ ( posedge d or negedge r ) if ( ! r ) q <= 1'b0 ; else q <= q ; endmodule",
+    "module m ( input c , input r , output reg q ) ; always @ ( posedge c or negedge d ) if ( ! d ) q <= 1'b0 ; else q <= q ; endmodule",
     // a register has no process, and has two
-    "module m(input c); reg q; endmodule",
-    "module m(input c, input r, output reg q); always @(posedge c or negedge r) if (!r) q <= 1'b0; else q <= q; always @(posedge c or negedge r) if (!r) q <= 1'b0; else q <= q; endmodule",
+    "module m ( input c ) ; reg q ; endmodule",
+    "module m ( input c , input r , output reg q ) ; always @ ( posedge c or negedge r ) if ( ! r ) q <= 1'b0 ; else q <= q ; always @ ( posedge c or negedge r ) if ( ! r ) q <= 1'b0 ; else q <= q ; endmodule",
     // an input is assigned, and the branches assign two registers
-    "module m(input c, input r); always @(posedge c or negedge r) if (!r) r <= 1'b0; else r <= r; endmodule",
-    "module m(input c, input r, output reg p, output reg q); always @(posedge c or negedge r) if (!r) q <= 1'b0; else p <= q; always @(posedge c or negedge r) if (!r) p <= 1'b0; else q <= p; endmodule",
+    "module m ( input c , input r ) ; always @ ( posedge c or negedge r ) if ( ! r ) r <= 1'b0 ; else r <= r ; endmodule",
+    "module m ( input c , input r , output reg p , output reg q ) ; always @ ( posedge c or negedge r ) if ( ! r ) q <= 1'b0 ; else p <= q ; always @ ( posedge c or negedge r ) if ( ! r ) p <= 1'b0 ; else q <= p ; endmodule",
     // `negedge` without `!`, `posedge` with it, and a test of another name
-    "module m(input c, input r, output reg q); always @(posedge c or negedge r) if (r) q <= 1'b0; else q <= q; endmodule",
-    "module m(input c, input r, output reg q); always @(posedge c or posedge r) if (!r) q <= 1'b0; else q <= q; endmodule",
-    "module m(input c, input r, input s, output reg q); always @(posedge c or negedge r) if (!s) q <= 1'b0; else q <= q; endmodule",
+    "module m ( input c , input r , output reg q ) ; always @ ( posedge c or negedge r ) if ( r ) q <= 1'b0 ; else q <= q ; endmodule",
+    "module m ( input c , input r , output reg q ) ; always @ ( posedge c or posedge r ) if ( ! r ) q <= 1'b0 ; else q <= q ; endmodule",
+    "module m ( input c , input r , input s , output reg q ) ; always @ ( posedge c or negedge r ) if ( ! s ) q <= 1'b0 ; else q <= q ; endmodule",
     // a register clocks, a clock is tested, and a clock is read
-    "module m(input r, output reg q); always @(posedge q or negedge r) if (!r) q <= 1'b0; else q <= q; endmodule",
-    "module m(input c, output reg q); always @(posedge c or negedge c) if (!c) q <= 1'b0; else q <= q; endmodule",
-    "module m(input c, input r, output reg q); always @(posedge c or negedge r) if (!r) q <= 1'b0; else q <= c; endmodule",
+    "module m ( input r , output reg q ) ; always @ ( posedge q or negedge r ) if ( ! r ) q <= 1'b0 ; else q <= q ; endmodule",
+    "module m ( input c , output reg q ) ; always @ ( posedge c or negedge c ) if ( ! c ) q <= 1'b0 ; else q <= q ; endmodule",
+    "module m ( input c , input r , output reg q ) ; always @ ( posedge c or negedge r ) if ( ! r ) q <= 1'b0 ; else q <= c ; endmodule",
     // an input is assigned, a register is, and a name that is not declared
-    "module m(input a, input b); assign a = b; endmodule",
-    "module m(input c, input r, output reg q); assign q = c; always @(posedge c or negedge r) if (!r) q <= 1'b0; else q <= q; endmodule",
-    "module m(input a, output w); assign w = a; assign x = a; endmodule",
+    "module m ( input a , input b ) ; assign a = b ; endmodule",
+    "module m ( input c , input r , output reg q ) ; assign q = c ; always @ ( posedge c or negedge r ) if ( ! r ) q <= 1'b0 ; else q <= q ; endmodule",
+    "module m ( input a , output w ) ; assign w = a ; assign x = a ; endmodule",
     // a wire has no assignment, and has two
-    "module m(input a, output w); endmodule",
-    "module m(input a, output w); assign w = a; assign w = ~a; endmodule",
+    "module m ( input a , output w ) ; endmodule",
+    "module m ( input a , output w ) ; assign w = a ; assign w = ~ a ; endmodule",
     // a wire reads itself, two read each other, and three do
-    "module m(input a, output w); assign w = a & w; endmodule",
-    "module m(input a, output v, output w); assign w = a & v; assign v = ~w; endmodule",
-    "module m(input a, output u, output v, output w); assign u = a | v; assign v = a & w; assign w = ~u; endmodule",
+    "module m ( input a , output w ) ; assign w = a & w ; endmodule",
+    "module m ( input a , output v , output w ) ; assign w = a & v ; assign v = ~ w ; endmodule",
+    "module m ( input a , output u , output v , output w ) ; assign u = a | v ; assign v = a & w ; assign w = ~ u ; endmodule",
     // a name that is not declared is read, and a wire clocks, and is tested
-    "module m(input a, output w); assign w = a & b; endmodule",
-    "module m(input c, input r, output w, output reg q); assign w = c; always @(posedge w or negedge r) if (!r) q <= 1'b0; else q <= q; endmodule",
-    "module m(input c, input r, output w, output reg q); assign w = r; always @(posedge c or negedge w) if (!w) q <= 1'b0; else q <= q; endmodule",
+    "module m ( input a , output w ) ; assign w = a & b ; endmodule",
+    "module m ( input c , input r , output w , output reg q ) ; assign w = c ; always @ ( posedge w or negedge r ) if ( ! r ) q <= 1'b0 ; else q <= q ; endmodule",
+    "module m ( input c , input r , output w , output reg q ) ; assign w = r ; always @ ( posedge c or negedge w ) if ( ! w ) q <= 1'b0 ; else q <= q ; endmodule",
     // a wire is assigned by a process
-    "module m(input c, input r, output w); always @(posedge c or negedge r) if (!r) w <= 1'b0; else w <= r; endmodule",
+    "module m ( input c , input r , output w ) ; always @ ( posedge c or negedge r ) if ( ! r ) w <= 1'b0 ; else w <= r ; endmodule",
     // a clock stands in an assignment that nothing reads
-    "module m(input c, input r, output reg q, output w); assign w = ~c; always @(posedge c or negedge r) if (!r) q <= 1'b0; else q <= q; endmodule",
+    "module m ( input c , input r , output reg q , output w ) ; assign w = ~ c ; always @ ( posedge c or negedge r ) if ( ! r ) q <= 1'b0 ; else q <= q ; endmodule",
     // a reserved word as a name
-    "module m(input table); endmodule",
+    "module m ( input table ) ; endmodule",
     // what is not of the grammar
-    "module m(); endmodule",
-    "module m(input c, input r, output reg q); initial @(posedge c or negedge r) if (!r) q <= 1'b0; else q <= q; endmodule",
-    "module m(input c); endmodule endmodule",
-    // words that touch, an open end, a comment to the end
-    "modulem(input c); endmodule",
-    "module m(input c); end",
-    "module m(input c); // endmodule",
-    // another comment, a byte above 127, nothing
-    "module m(input c); /* */ endmodule",
-    "module m(input c\u{e9}); endmodule",
+    "module m ( ) ; endmodule",
+    "module m ( input c , input r , output reg q ) ; initial @ ( posedge c or negedge r ) if ( ! r ) q <= 1'b0 ; else q <= q ; endmodule",
+    "module m ( input c ) ; endmodule endmodule",
+    // an open end, and nothing
+    "module m ( input c ) ; end",
     "",
 ];
+
+/// The tokens of a text in which blanks stand between them.
+fn tokens_of(alloc: Global, text: &str) -> Result<Vec<&[u8]>, AllocError> {
+    let mut tokens = Vec::new(alloc);
+    for token in text.split_whitespace() {
+        tokens.push(token.as_bytes())?;
+    }
+    Ok(tokens)
+}
 
 /// Each source of the example by hand: a 0, ca 1, cb 2, d 3, e 4, q 5, ra 6, rb 7. Its wires are n and w.
 #[test]
 fn the_example_is_read(rt: HostRuntime) -> Result<(), Fail> {
-    let text = EXAMPLE.as_bytes();
-    assert!(rt; text.len() < 1000);
-    let net = read(rt.alloc(), b"m", text)?;
+    let tokens = tokens_of(rt.alloc(), EXAMPLE)?;
+    assert!(rt; tokens.len() < 1000);
+    let net = read(rt.alloc(), b"m", &tokens)?;
     assert_eq!(rt; net.sources(), 8);
     let high = false;
     let reset = false;
@@ -109,9 +114,9 @@ fn the_example_is_read(rt: HostRuntime) -> Result<(), Fail> {
 /// The nodes of the example by hand: n is a & ~e, and w is ~(n | a) & q.
 #[test]
 fn the_example_has_its_nodes(rt: HostRuntime) -> Result<(), Fail> {
-    let text = EXAMPLE.as_bytes();
-    assert!(rt; text.len() < 1000);
-    let net = read(rt.alloc(), b"m", text)?;
+    let tokens = tokens_of(rt.alloc(), EXAMPLE)?;
+    assert!(rt; tokens.len() < 1000);
+    let net = read(rt.alloc(), b"m", &tokens)?;
     assert_eq!(rt; net.nodes(), 13);
     let nodes = [
         Node::Source(7),
@@ -133,9 +138,9 @@ fn the_example_has_its_nodes(rt: HostRuntime) -> Result<(), Fail> {
 /// The bits of the example by hand: a 0, ca 1, cb 2, d 3, e 4, n 5, q 6, ra 7, rb 8, w 9.
 #[test]
 fn the_example_has_its_bits(rt: HostRuntime) -> Result<(), Fail> {
-    let text = EXAMPLE.as_bytes();
-    assert!(rt; text.len() < 1000);
-    let net = read(rt.alloc(), b"m", text)?;
+    let tokens = tokens_of(rt.alloc(), EXAMPLE)?;
+    assert!(rt; tokens.len() < 1000);
+    let net = read(rt.alloc(), b"m", &tokens)?;
     assert_eq!(rt; net.sources(), 8);
     assert_eq!(rt; net.bits(), 10);
     assert_eq!(rt; net.bit_of(5), 6);
@@ -153,10 +158,10 @@ fn the_example_has_its_bits(rt: HostRuntime) -> Result<(), Fail> {
 }
 
 #[test]
-fn a_high_reset_and_odd_comments_are_read(rt: HostRuntime) -> Result<(), Fail> {
-    let text = HIGH.as_bytes();
-    assert!(rt; text.len() < 1000);
-    let net = read(rt.alloc(), b"m", text)?;
+fn a_high_reset_is_read(rt: HostRuntime) -> Result<(), Fail> {
+    let tokens = tokens_of(rt.alloc(), HIGH)?;
+    assert!(rt; tokens.len() < 1000);
+    let net = read(rt.alloc(), b"m", &tokens)?;
     assert_eq!(rt; net.sources(), 3);
     let flop = Flop {
         clock: 0,
@@ -172,9 +177,9 @@ fn a_high_reset_and_odd_comments_are_read(rt: HostRuntime) -> Result<(), Fail> {
 /// a 0, c 1, q 2, r 3: every gate that is written is a node, and `|` groups to the left.
 #[test]
 fn no_gate_is_folded(rt: HostRuntime) -> Result<(), Fail> {
-    let text = NOTHING_FOLDS.as_bytes();
-    assert!(rt; text.len() < 1000);
-    let net = read(rt.alloc(), b"m", text)?;
+    let tokens = tokens_of(rt.alloc(), NOTHING_FOLDS)?;
+    assert!(rt; tokens.len() < 1000);
+    let net = read(rt.alloc(), b"m", &tokens)?;
     assert_eq!(rt; net.nodes(), 8);
     let nodes = [
         Node::Not(0),
@@ -194,9 +199,9 @@ fn no_gate_is_folded(rt: HostRuntime) -> Result<(), Fail> {
 /// x reads y and z, y reads z, and z stands last: z is node 0, y node 1, x node 2.
 #[test]
 fn wires_are_read_before_they_are_assigned(rt: HostRuntime) -> Result<(), Fail> {
-    let text = LATE.as_bytes();
-    assert!(rt; text.len() < 1000);
-    let net = read(rt.alloc(), b"m", text)?;
+    let tokens = tokens_of(rt.alloc(), LATE)?;
+    assert!(rt; tokens.len() < 1000);
+    let net = read(rt.alloc(), b"m", &tokens)?;
     assert_eq!(rt; net.nodes(), 3);
     assert_eq!(rt; net.node(1), Node::Not(0));
     assert_eq!(rt; net.node(2), Node::And(1, 0));
@@ -207,11 +212,12 @@ fn wires_are_read_before_they_are_assigned(rt: HostRuntime) -> Result<(), Fail> 
 }
 
 #[test]
-fn a_text_of_another_form_is_refused(rt: HostRuntime) {
+fn tokens_of_another_form_are_refused(rt: HostRuntime) -> Result<(), Fail> {
     for text in &REFUSED {
-        let bytes = text.as_bytes();
-        assert!(rt; bytes.len() < 1000);
-        let answer = read(rt.alloc(), b"m", bytes);
+        let tokens = tokens_of(rt.alloc(), text)?;
+        assert!(rt; tokens.len() < 1000);
+        let answer = read(rt.alloc(), b"m", &tokens);
         assert!(rt; matches!(answer, Err(FormFault::NotOfForm)), "{text}");
     }
+    Ok(())
 }

@@ -4,8 +4,7 @@ use Rattle.std.specs.Prelude.{codes}
 use Rattle.std.specs.Str.{bytes_eq}
 use Rattle.std.proofs.lemmas.Bool.{cases_Bool}
 use Rattle.std.proofs.lemmas.Slice.Eq.{bytes_eq-Decides}
-use Rattle.thin_tree.specs.Tokens.{begins_word, continues_word, is_word}
-use Rattle.thin_tree.specs.Identifiers.{reserved, is_identifier, IsIdentifier}
+use Rattle.thin_tree.specs.Identifiers.{begins_word, continues_word, is_word, reserved, is_identifier, IsIdentifier}
 use Rattle.thin_tree.specs.Tree.{Class, Input, Net, Register, Declared}
 use Rattle.thin_tree.specs.Grammar.{IsWord, IsPort}
 use Rattle.thin_tree.specs.Spelling.{port, further_port, control, test, clearing}

@@ -1,5 +1,3 @@
-pub mod Fronts
-pub mod Texts
 pub mod Productions
 pub mod Again
 pub mod Chains

@@ -4,8 +4,7 @@ use Rattle.std.specs.Prelude.{IsTrue, codes}
 use Rattle.std.specs.Str.{bytes_eq}
 use Rattle.std.proofs.lemmas.Bool.{cases_Bool, cond-true, cond-false}
 use Rattle.std.proofs.lemmas.Slice.Eq.{bytes_eq-Decides}
-use Rattle.thin_tree.specs.Tokens.{is_word}
-use Rattle.thin_tree.specs.Identifiers.{is_identifier, IsIdentifier}
+use Rattle.thin_tree.specs.Identifiers.{is_word, is_identifier, IsIdentifier}
 use Rattle.thin_tree.specs.Tree.{Declared}
 use Rattle.thin_tree.specs.Grammar.{IsWord, IsPort}
 use Rattle.thin_tree.specs.Spelling.{port, further_port, control, test, clearing}

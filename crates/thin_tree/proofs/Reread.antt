@@ -1,7 +1,7 @@
 -- An expression of the grammar is read as it is spelled, and so are the items.
 use Rattle.std.proofs.Common.{◌≡◌, ℕ, zero, suc, false, List, [], ◌∷◌, ◌++◌, length-append, Option, Some, None, refl, sym, ap, subst, ◌∙◌, append_assoc, arith}
 use Rattle.std.specs.Prelude.{codes}
-use Rattle.thin_tree.specs.Tokens.{begins_word, is_word}
+use Rattle.thin_tree.specs.Identifiers.{begins_word, is_word}
 use Rattle.thin_tree.specs.Tree.{Expr, Name, Brackets, Not, And, Or, Assignment, Process, Item, Wire, Reg, Assign, Always}
 use Rattle.thin_tree.specs.Grammar.{IsWord, IsExpr, IsAssignment, IsProcess, IsItem}
 use Rattle.thin_tree.specs.Spelling.{expression, control, test, clearing, loading, process, assignment, item}

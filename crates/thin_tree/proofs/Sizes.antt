@@ -1,26 +1,11 @@
--- A text is no shorter than its names and steps are many.
+-- Tokens are no fewer than the names and steps of the tree that they write.
 use Rattle.std.proofs.Common.{◌≡◌, ℕ, suc, ◌+◌, ◌<◌, ◌≤◌, Bool, false, List, [], ◌∷◌, ◌++◌, length, length-append, Option, Some, None, Result, Ok, Err, refl, sym, ap, ◌∙◌, arith}
 use Rattle.std.specs.List.{flat_map}
 use Rattle.std.specs.Prelude.{IfOk, codes}
-use Rattle.thin_tree.specs.Tokens.{gap_past, after_gap_in, after_gap, IsText}
 use Rattle.thin_tree.specs.Tree.{Expr, Name, Brackets, Not, And, Or, Declared, Assignment, Process, Item, Wire, Reg, Assign, Always, Module}
 use Rattle.thin_tree.specs.Postfix.{postfix, brackets, negation, both, either}
 use Rattle.thin_tree.specs.Spelling.{expression, direction, port, further_port, ports, control, test, clearing, loading, process, assignment, item, spelling}
 use Rattle.thin_tree.specs.Grammar.{declared_by, declared_in, steps_of, steps_in, size, IsTree}
-use Rattle.thin_tree.proofs.Fronts.{rest_is_shorter}
-
-gap_in_shorter : (inside : Bool) (bs : List ℕ) → length (after_gap_in inside bs) ≤ length bs
-unfolding after_gap_in
-gap_in_shorter inside [] = omega arith
-gap_in_shorter inside (b ∷ bs) = go (gap_past inside b bs) refl (λ next. gap_in_shorter next bs)
-  where
-    go : (o : Option Bool) → gap_past inside b bs ≡ o → ((next : Bool) → length (after_gap_in next bs) ≤ length bs) → length (after_gap_in inside (b ∷ bs)) ≤ suc (length bs)
-    go None e later = let here : after_gap_in inside (b ∷ bs) ≡ b ∷ bs = rw (e, after_gap_in) refl in omega (arith, ap length here)
-    go (Some next) e later = let here : after_gap_in inside (b ∷ bs) ≡ after_gap_in next bs = rw (e, after_gap_in) refl in omega (arith, ap length here, later next)
-
-tokens_few : (ts : List (List ℕ)) (bs : List ℕ) → IsText ts bs → length ts ≤ length bs
-tokens_few [] bs is = omega arith
-tokens_few (t ∷ ts) bs is = omega (arith, tokens_few ts is.0 is.2, rest_is_shorter (after_gap bs) t is.0 is.1, gap_in_shorter false bs)
 
 steps_few : (e : Expr) → length (postfix e) ≤ length (expression e)
 steps_few (Name t) = omega arith
@@ -76,10 +61,7 @@ unfolding spelling
 spelling_few m =
     omega (arith, length-append m.ports (declared_in m.items), ports_few m.ports, items_few m.items, length-append (ports m.ports) (codes ")" ∷ codes ";" ∷ (flat_map item m.items ++ codes "endmodule" ∷ [])), length-append (flat_map item m.items) (codes "endmodule" ∷ []))
 
-pub few : (m : Module) (ts : List (List ℕ)) (bs : List ℕ) → IsText ts bs → ts ≡ spelling m → size m ≤ length bs
-few m ts bs is e = omega (arith, tokens_few ts bs is, ap length e, spelling_few m)
-
--- what was read of the tokens is no larger than the text
-pub few_if : {T E : Type 0} (tree_of : T → Module) (r : Result T E) (ts us : List (List ℕ)) (bs : List ℕ) → IsText ts bs → us ≡ ts → IfOk r (λ m. IsTree (tree_of m) × (us ≡ spelling (tree_of m))) → IfOk r (λ m. size (tree_of m) ≤ length bs)
-few_if tree_of (Ok m) ts us bs is same tree = few (tree_of m) ts bs is (sym same ∙ tree.1)
-few_if tree_of (Err f) ts us bs is same tree = tt
+-- what was read of the tokens is no larger than they are many
+pub few_if : {T E : Type 0} (tree_of : T → Module) (r : Result T E) (ts : List (List ℕ)) (count : ℕ) → length ts ≡ count → IfOk r (λ m. IsTree (tree_of m) × (ts ≡ spelling (tree_of m))) → IfOk r (λ m. size (tree_of m) ≤ count)
+few_if tree_of (Ok m) ts count are tree = omega (arith, are, ap length tree.1, spelling_few (tree_of m))
+few_if tree_of (Err f) ts count are tree = tt

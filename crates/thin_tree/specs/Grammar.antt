@@ -7,8 +7,7 @@
 --     size m                     how many names are declared, and how many steps the expressions take
 use Rattle.std.specs.Prelude.{◌≢◌, ℕ, zero, suc, ◌+◌, Bool, true, false, ◌&&◌, nat_le, IsTrue, List, [], ◌∷◌, ◌++◌, length}
 use Rattle.std.specs.List.{AllByRecursion}
-use Rattle.thin_tree.specs.Tokens.{is_word}
-use Rattle.thin_tree.specs.Identifiers.{IsIdentifier}
+use Rattle.thin_tree.specs.Identifiers.{is_word, IsIdentifier}
 use Rattle.thin_tree.specs.Postfix.{postfix}
 use Rattle.thin_tree.specs.Tree.{Net, Register, Expr, Name, Brackets, Not, And, Or, Declared, Assignment, Process, Item, Wire, Reg, Assign, Always, Module}
 

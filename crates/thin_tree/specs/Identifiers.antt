@@ -1,8 +1,20 @@
--- Which words are names: those that are not reserved (IEEE 1364-2005, annex B).
-use Rattle.std.specs.Prelude.{ℕ, Bool, not, ◌&&◌, IsTrue, List, [], ◌∷◌, codes}
-use Rattle.std.specs.List.{list_any}
+-- Which tokens are words, and which words are names: those that are not reserved (IEEE 1364-2005, 3.7 and annex B).
+use Rattle.std.specs.Prelude.{ℕ, Bool, false, not, ◌&&◌, ◌||◌, ◌==◌, nat_le, IsTrue, List, [], ◌∷◌, codes}
+use Rattle.std.specs.List.{list_any, list_all}
 use Rattle.std.specs.Str.{bytes_eq}
-use Rattle.thin_tree.specs.Tokens.{is_word}
+
+-- a letter or `_`
+unfoldable pub begins_word : ℕ → Bool
+begins_word b = (nat_le 97 b && nat_le b 122) || (nat_le 65 b && nat_le b 90) || b == 95
+
+-- a letter, `_`, a digit or `$`
+unfoldable pub continues_word : ℕ → Bool
+continues_word b = begins_word b || (nat_le 48 b && nat_le b 57) || b == 36
+
+-- a letter or `_`, and then letters, digits, `_` and `$`: no other token begins so
+unfoldable pub is_word : List ℕ → Bool
+is_word [] = false
+is_word (b ∷ bs) = begins_word b && list_all continues_word bs
 
 -- the reserved words
 unfoldable pub reserved : List (List ℕ)

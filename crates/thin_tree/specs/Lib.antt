@@ -1,4 +1,3 @@
-pub mod Tokens
 pub mod Identifiers
 pub mod Tree
 pub mod Postfix
@@ -6,7 +5,6 @@ pub mod Spelling
 pub mod Grammar
 pub mod Source
 pub mod Written
-pub mod Lengths
 pub mod Reading
 pub mod Operands
 pub mod Runs

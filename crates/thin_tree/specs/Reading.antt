@@ -6,8 +6,7 @@
 --     target_at, declared_at, head_at                      the fronts of an assignment, a declaration and a module
 use Rattle.std.specs.Prelude.{ℕ, Bool, true, false, if◌then◌else◌, List, [], ◌∷◌, Option, Some, None, codes}
 use Rattle.std.specs.Str.{bytes_eq}
-use Rattle.thin_tree.specs.Tokens.{is_word}
-use Rattle.thin_tree.specs.Identifiers.{is_identifier}
+use Rattle.thin_tree.specs.Identifiers.{is_word, is_identifier}
 use Rattle.thin_tree.specs.Tree.{Input, Net, Register, Declared}
 
 -- what f makes of a value that is there

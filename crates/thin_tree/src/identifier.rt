@@ -1,13 +1,10 @@
-//! Which words are names (IEEE 1364-2005, annex B).
+//! Which tokens are words, and which words are names (IEEE 1364-2005, 3.7 and annex B).
 
 ghost use Rattle.std.specs.Prelude.{◌≡◌};
 ghost use Rattle.std.specs.List.{list_any, list_all};
 ghost use Rattle.std.specs.Str.{bytes_eq};
-ghost use Rattle.thin_tree.specs.Tokens.{continues_word, is_word};
-ghost use Rattle.thin_tree.specs.Identifiers.{reserved, is_identifier};
+ghost use Rattle.thin_tree.specs.Identifiers.{begins_word, continues_word, is_word, reserved, is_identifier};
 ghost use Rattle.thin_tree.specs.Written.{texts};
-
-use crate::bytes::{begins, continues};
 
 const RESERVED: [&str; 124] = [
     "always",
@@ -136,6 +133,20 @@ const RESERVED: [&str; 124] = [
     "xor",
 ];
 
+#[tactic(auto, unfolding(crate::specs::Identifiers::begins_word))]
+fn begins(b: u8) -> bool
+    ensures { result ≡ begins_word b }
+{
+    (b'a' <= b && b <= b'z') || (b'A' <= b && b <= b'Z') || b == b'_'
+}
+
+#[tactic(auto, unfolding(crate::specs::Identifiers::continues_word))]
+fn continues(b: u8) -> bool
+    ensures { result ≡ continues_word b }
+{
+    begins(b) || (b'0' <= b && b <= b'9') || b == b'$'
+}
+
 /// Each byte goes on with a word.
 fn all_continue(t: &[u8]) -> bool
     ensures { result ≡ list_all continues_word t.now }
@@ -144,7 +155,7 @@ fn all_continue(t: &[u8]) -> bool
 }
 
 /// A letter or `_`, and then letters, digits, `_` and `$`.
-#[tactic(auto, unfolding(crate::specs::Tokens::is_word))]
+#[tactic(auto, unfolding(crate::specs::Identifiers::is_word))]
 pub(crate) fn is_a_word(t: &[u8]) -> bool
     ensures { result ≡ is_word t.now }
 {

@@ -1,16 +1,14 @@
 //! The tree of the first form of source: one module of wires, gates and flops with asynchronous resets.
 //!
-//! `parse` answers the one tree that a text writes, and refuses exactly the texts that write none
-//! (`specs/Source.antt`). It takes any bytes, and always returns.
+//! `parse` answers the one tree that a text's tokens write, and refuses exactly the tokens that write none
+//! (`specs/Source.antt`). It takes any list of tokens, each as its bytes, and always returns.
 //! Reading Verilog: stands on nothing but std. `thin_form` makes a design of the tree.
 #![tactic(auto)]
 
-mod bytes;
 mod expressions;
 mod fault;
 mod identifier;
 mod items;
-mod lexer;
 mod modules;
 mod reader;
 mod steps;

@@ -1,105 +1,99 @@
-//! A tree by hand, expressions with their steps by hand, each production broken once, and texts at the edges of the tokens.
+//! A tree by hand, expressions with their steps by hand, and each production broken once. Blanks part the tokens of a text.
 use super::*;
 use std::alloc::{AllocError, Global};
 use std::test::Fail;
 
 const EXAMPLE: &str =
-    "module m(input ca, input ra, input d, output reg q, output y);\n  wire w; // between\n  reg p;\n  assign w = d & p;\n  assign y = w;\n  always @(posedge ca or negedge ra) if (!ra) p <= 1'b0; else p <= ~w;\n  always @(posedge ca or posedge ra) if (ra) q <= 1'b1; else q <= p;\nendmodule\n";
-
-const TIGHT: &str =
-    "// caf\u{e9}\r\n\tmodule _m$1(input c,output y);\u{c}assign y=~c&(c|c);endmodule// end";
+    "module m ( input ca , input ra , input d , output reg q , output y ) ; wire w ; reg p ; assign w = d & p ; assign y = w ; always @ ( posedge ca or negedge ra ) if ( ! ra ) p <= 1'b0 ; else p <= ~ w ; always @ ( posedge ca or posedge ra ) if ( ra ) q <= 1'b1 ; else q <= p ; endmodule";
 
 /// Expressions, and their steps: a name by its letter, brackets by the closing one, operators by their marks.
 const STEPS: [(&str, &str); 17] = [
     ("a", "a"),
-    ("~a", "a~"),
-    ("(a)", "a)"),
-    ("((a))", "a))"),
+    ("~ a", "a~"),
+    ("( a )", "a)"),
+    ("( ( a ) )", "a))"),
     ("a & b", "ab&"),
     ("a | b", "ab|"),
     ("a & b & c", "ab&c&"),
     ("a | b | c", "ab|c|"),
     ("a | b & c", "abc&|"),
     ("a & b | c", "ab&c|"),
-    ("(a | b) & c", "ab|)c&"),
-    ("a & (b | c)", "abc|)&"),
-    ("~a & ~b | ~c", "a~b~&c~|"),
-    ("~(a & b)", "ab&)~"),
-    ("~(~(~a))", "a~)~)~"),
-    ("a & b | ~(c | d) & e", "ab&cd|)~e&|"),
-    ("a | b | c & d & ~e", "ab|cd&e~&|"),
+    ("( a | b ) & c", "ab|)c&"),
+    ("a & ( b | c )", "abc|)&"),
+    ("~ a & ~ b | ~ c", "a~b~&c~|"),
+    ("~ ( a & b )", "ab&)~"),
+    ("~ ( ~ ( ~ a ) )", "a~)~)~"),
+    ("a & b | ~ ( c | d ) & e", "ab&cd|)~e&|"),
+    ("a | b | c & d & ~ e", "ab|cd&e~&|"),
 ];
 
 const NO_EXPRESSIONS: [&str; 18] = [
-    "", "&", "a &", "& a", "a |", "| a", "a b", "a ~ b", "~", "~~a", "()", "(a", "a)", "a && b",
-    "a || b", "!a", "1'b0", "a = b",
+    "", "&", "a &", "& a", "a |", "| a", "a b", "a ~ b", "~", "~ ~ a", "( )", "( a", "a )", "a & & b",
+    "a | | b", "! a", "1'b0", "a = b",
 ];
 
 const NO_ITEMS: [&str; 33] = [
-    "wire;",
+    "wire ;",
     "wire w",
-    "wire w, x;",
-    "wire table;",
-    "reg;",
+    "wire w , x ;",
+    "wire table ;",
+    "reg ;",
     "reg r",
-    "reg reg;",
-    "assign y;",
-    "assign = a;",
-    "assign y a;",
-    "assign y <= a;",
+    "reg reg ;",
+    "assign y ;",
+    "assign = a ;",
+    "assign y a ;",
+    "assign y <= a ;",
     "assign y = a",
-    "initial @(posedge c or negedge r) if (!r) q <= 1'b0; else q <= q;",
-    "always (posedge c or negedge r) if (!r) q <= 1'b0; else q <= q;",
-    "always @ posedge c or negedge r) if (!r) q <= 1'b0; else q <= q;",
-    "always @(negedge c or negedge r) if (!r) q <= 1'b0; else q <= q;",
-    "always @(posedge c, negedge r) if (!r) q <= 1'b0; else q <= q;",
-    "always @(posedge c or r) if (!r) q <= 1'b0; else q <= q;",
-    "always @(posedge c or negedge r if (!r) q <= 1'b0; else q <= q;",
-    "always @(posedge c or negedge r) (!r) q <= 1'b0; else q <= q;",
-    "always @(posedge c or negedge r) if !r q <= 1'b0; else q <= q;",
-    "always @(posedge c or negedge r) if (~r) q <= 1'b0; else q <= q;",
-    "always @(posedge c or negedge r) if (!!r) q <= 1'b0; else q <= q;",
-    "always @(posedge c or negedge r) if (!r) q = 1'b0; else q <= q;",
-    "always @(posedge c or negedge r) if (!r) q <= a; else q <= q;",
-    "always @(posedge c or negedge r) if (!r) q <= 1'b2; else q <= q;",
-    "always @(posedge c or negedge r) if (!r) q <= 1'b00; else q <= q;",
-    "always @(posedge c or negedge r) if (!r) q <= 1'b0 else q <= q;",
-    "always @(posedge c or negedge r) if (!r) q <= 1'b0;",
-    "always @(posedge c or negedge r) if (!r) q <= 1'b0; else q = q;",
-    "always @(posedge c or negedge r) if (!r) q <= 1'b0; else q <= ;",
-    "always @(posedge c or negedge r) if (!r) q <= 1'b0; else q <= q",
-    "input b;",
+    "initial @ ( posedge c or negedge r ) if ( ! r ) q <= 1'b0 ; else q <= q ;",
+    "always ( posedge c or negedge r ) if ( ! r ) q <= 1'b0 ; else q <= q ;",
+    "always @ posedge c or negedge r ) if ( ! r ) q <= 1'b0 ; else q <= q ;",
+    "always @ ( negedge c or negedge r ) if ( ! r ) q <= 1'b0 ; else q <= q ;",
+    "always @ ( posedge c , negedge r ) if ( ! r ) q <= 1'b0 ; else q <= q ;",
+    "always @ ( posedge c or r ) if ( ! r ) q <= 1'b0 ; else q <= q ;",
+    "always @ ( posedge c or negedge r if ( ! r ) q <= 1'b0 ; else q <= q ;",
+    "always @ ( posedge c or negedge r ) ( ! r ) q <= 1'b0 ; else q <= q ;",
+    "always @ ( posedge c or negedge r ) if ! r q <= 1'b0 ; else q <= q ;",
+    "always @ ( posedge c or negedge r ) if ( ~ r ) q <= 1'b0 ; else q <= q ;",
+    "always @ ( posedge c or negedge r ) if ( ! ! r ) q <= 1'b0 ; else q <= q ;",
+    "always @ ( posedge c or negedge r ) if ( ! r ) q = 1'b0 ; else q <= q ;",
+    "always @ ( posedge c or negedge r ) if ( ! r ) q <= a ; else q <= q ;",
+    "always @ ( posedge c or negedge r ) if ( ! r ) q <= 1'b2 ; else q <= q ;",
+    "always @ ( posedge c or negedge r ) if ( ! r ) q <= 1'b00 ; else q <= q ;",
+    "always @ ( posedge c or negedge r ) if ( ! r ) q <= 1'b0 else q <= q ;",
+    "always @ ( posedge c or negedge r ) if ( ! r ) q <= 1'b0 ;",
+    "always @ ( posedge c or negedge r ) if ( ! r ) q <= 1'b0 ; else q = q ;",
+    "always @ ( posedge c or negedge r ) if ( ! r ) q <= 1'b0 ; else q <= ;",
+    "always @ ( posedge c or negedge r ) if ( ! r ) q <= 1'b0 ; else q <= q",
+    "input b ;",
 ];
 
-const NO_MODULES: [&str; 25] = [
+const NO_MODULES: [&str; 22] = [
     // the head
-    "modul m(input c); endmodule",
-    "module wire(input c); endmodule",
-    "module (input c); endmodule",
-    "module m input c); endmodule",
+    "modul m ( input c ) ; endmodule",
+    "module wire ( input c ) ; endmodule",
+    "module ( input c ) ; endmodule",
+    "module m input c ) ; endmodule",
     // the ports
-    "module m(); endmodule",
-    "module m(c); endmodule",
-    "module m(reg c); endmodule",
-    "module m(input reg c); endmodule",
-    "module m(output wire c); endmodule",
-    "module m(output c reg); endmodule",
-    "module m(input table); endmodule",
-    "module m(input c input d); endmodule",
-    "module m(input c,); endmodule",
-    "module m(input c; endmodule",
-    "module m(input c) endmodule",
+    "module m ( ) ; endmodule",
+    "module m ( c ) ; endmodule",
+    "module m ( reg c ) ; endmodule",
+    "module m ( input reg c ) ; endmodule",
+    "module m ( output wire c ) ; endmodule",
+    "module m ( output c reg ) ; endmodule",
+    "module m ( input table ) ; endmodule",
+    "module m ( input c input d ) ; endmodule",
+    "module m ( input c , ) ; endmodule",
+    "module m ( input c ; endmodule",
+    "module m ( input c ) endmodule",
     // the end
-    "module m(input c);",
-    "module m(input c); end",
-    "module m(input c); endmodule endmodule",
-    "module m(input c); // endmodule",
-    // words that touch, another comment, a byte above 127, other control bytes, nothing
-    "modulem(input c); endmodule",
-    "module m(input c); /* */ endmodule",
-    "module m(input c\u{e9}); endmodule",
-    "module m(input c);\u{b}endmodule",
-    "module m(input c);\u{0}endmodule",
+    "module m ( input c ) ;",
+    "module m ( input c ) ; end",
+    "module m ( input c ) ; endmodule endmodule",
+    // names of other kinds, and nothing
+    "module \\m ( input c ) ; endmodule",
+    "module m ( input $c ) ; endmodule",
+    "module m ( input \"c\" ) ; endmodule",
     "",
 ];
 
@@ -129,23 +123,42 @@ fn assigns(item: &Item, target: &[u8], symbols: &str) -> bool {
     }
 }
 
-fn nested(alloc: Global, pairs: usize) -> Result<Vec<u8>, AllocError> {
-    let mut text = Vec::new(alloc);
-    text.extend_from_slice(b"module m(input a, output y); assign y = ")?;
-    for _ in 0..pairs {
-        text.push(b'(')?;
+/// The tokens of a text in which blanks stand between them.
+fn tokens_of(alloc: Global, text: &str) -> Result<Vec<&[u8]>, AllocError> {
+    let mut tokens = Vec::new(alloc);
+    for token in text.split_whitespace() {
+        tokens.push(token.as_bytes())?;
     }
-    text.push(b'a')?;
+    Ok(tokens)
+}
+
+/// Whether the text's tokens are of another form.
+fn is_refused(alloc: Global, text: &str) -> Result<bool, AllocError> {
+    let tokens = tokens_of(alloc, text)?;
+    Ok(matches!(
+        parse(alloc, &tokens),
+        Err(FormFault::NotOfForm)
+    ))
+}
+
+fn nested(alloc: Global, pairs: usize) -> Result<Vec<&'static [u8]>, AllocError> {
+    let mut tokens = tokens_of(alloc, "module m ( input a , output y ) ; assign y =")?;
     for _ in 0..pairs {
-        text.push(b')')?;
+        tokens.push(b"(")?;
     }
-    text.extend_from_slice(b"; endmodule")?;
-    Ok(text)
+    tokens.push(b"a")?;
+    for _ in 0..pairs {
+        tokens.push(b")")?;
+    }
+    tokens.push(b";")?;
+    tokens.push(b"endmodule")?;
+    Ok(tokens)
 }
 
 #[test]
 fn the_example_is_read(rt: HostRuntime) -> Result<(), Fail> {
-    let module = parse(rt.alloc(), EXAMPLE.as_bytes())?;
+    let tokens = tokens_of(rt.alloc(), EXAMPLE)?;
+    let module = parse(rt.alloc(), &tokens)?;
     assert!(rt; module.name == b"m".as_slice());
     assert!(rt; module.first.name == b"ca".as_slice() && module.first.class == Class::Input);
     assert_eq!(rt; module.others.len(), 4);
@@ -163,7 +176,8 @@ fn the_example_is_read(rt: HostRuntime) -> Result<(), Fail> {
 
 #[test]
 fn the_processes_of_the_example_are_read(rt: HostRuntime) -> Result<(), Fail> {
-    let module = parse(rt.alloc(), EXAMPLE.as_bytes())?;
+    let tokens = tokens_of(rt.alloc(), EXAMPLE)?;
+    let module = parse(rt.alloc(), &tokens)?;
     assert_eq!(rt; module.items.len(), 6);
     let (Item::Always(low), Item::Always(high)) = (&module.items[4], &module.items[5]) else {
         assert!(rt; false);
@@ -180,21 +194,13 @@ fn the_processes_of_the_example_are_read(rt: HostRuntime) -> Result<(), Fail> {
 }
 
 #[test]
-fn words_may_touch_marks_and_the_end(rt: HostRuntime) -> Result<(), Fail> {
-    let module = parse(rt.alloc(), TIGHT.as_bytes())?;
-    assert!(rt; module.name == b"_m$1".as_slice());
-    assert_eq!(rt; module.items.len(), 1);
-    assert!(rt; assigns(&module.items[0], b"y", "c~cc|)&"));
-    Ok(())
-}
-
-#[test]
 fn a_step_stands_behind_what_it_works_on(rt: HostRuntime) -> Result<(), Fail> {
     for (expression, steps) in &STEPS {
         let text = format!(in rt.alloc();
-            "module m(input a, output y); assign y = {expression}; endmodule"
+            "module m ( input a , output y ) ; assign y = {expression} ; endmodule"
         )?;
-        let module = parse(rt.alloc(), text.as_bytes())?;
+        let tokens = tokens_of(rt.alloc(), &text)?;
+        let module = parse(rt.alloc(), &tokens)?;
         assert_eq!(rt; module.items.len(), 1);
         assert!(rt; assigns(&module.items[0], b"y", steps), "{expression}");
     }
@@ -211,37 +217,20 @@ fn so_many_brackets_may_nest(rt: HostRuntime) -> Result<(), Fail> {
 }
 
 #[test]
-fn a_text_of_another_form_is_refused(rt: HostRuntime) -> Result<(), Fail> {
+fn tokens_of_another_form_are_refused(rt: HostRuntime) -> Result<(), Fail> {
+    let alloc = rt.alloc();
     for text in &NO_MODULES {
-        assert!(rt;
-            matches!(
-                parse(rt.alloc(), text.as_bytes()),
-                Err(FormFault::NotOfForm)
-            ),
-            "{text}"
-        );
+        assert!(rt; is_refused(alloc, text)?, "{text}");
     }
     for item in &NO_ITEMS {
-        let text = format!(in rt.alloc(); "module m(input a, output y); {item} endmodule")?;
-        assert!(rt;
-            matches!(
-                parse(rt.alloc(), text.as_bytes()),
-                Err(FormFault::NotOfForm)
-            ),
-            "{item}"
-        );
+        let text = format!(in alloc; "module m ( input a , output y ) ; {item} endmodule")?;
+        assert!(rt; is_refused(alloc, &text)?, "{item}");
     }
     for expression in &NO_EXPRESSIONS {
-        let text = format!(in rt.alloc();
-            "module m(input a, output y); assign y = {expression}; endmodule"
+        let text = format!(in alloc;
+            "module m ( input a , output y ) ; assign y = {expression} ; endmodule"
         )?;
-        assert!(rt;
-            matches!(
-                parse(rt.alloc(), text.as_bytes()),
-                Err(FormFault::NotOfForm)
-            ),
-            "{expression}"
-        );
+        assert!(rt; is_refused(alloc, &text)?, "{expression}");
     }
     Ok(())
 }
