@@ -11,8 +11,8 @@ use crate::conclusion::{conclude, refuse};
 use rdc_outside::{Shelf, Sink, Status};
 use std::alloc::Global;
 
-/// Signs off what the words ask for: loads the two files, judges the design that they spell, and writes the report,
-/// or writes one line that says why there is none.
+/// Signs off what the words ask for: loads the constraints, then the sources with what they include, judges the design
+/// that they spell, and writes the report, or writes one line that says why there is none.
 pub fn signoff<S: Shelf, K: Sink>(
     alloc: Global,
     words: &[String],

@@ -1,4 +1,6 @@
 //! Whole calls over files and a sink in memory. What is expected was written by hand.
+mod sources;
+
 use crate::signing::signoff;
 use rdc_outside::{MemShelf, MemSink, Status};
 use std::alloc::{AllocError, Global};
@@ -41,12 +43,14 @@ const CROSSING: &str =
 
 const CLEAN: &str = "rdc report 1\ntop m\nsame 2 crossing 0\nverdict clean\n";
 
-// What a call is run on: the words, the text of each file, and the numbers of the loads and writes that fail.
+// What a call is run on: the words, the text of each file (`m.rdc`, `m.v`, and others by name), and the numbers of the
+// loads and writes that fail.
 #[derive(Clone, Copy)]
 struct Case<'a> {
     words: &'a [&'a str],
     constraints: &'a str,
     source: &'a str,
+    others: &'a [(&'a str, &'a str)],
     failing_load: u64,
     failing_write: u64,
 }
@@ -56,6 +60,7 @@ fn make_case<'a>(words: &'a [&'a str], constraints: &'a str, source: &'a str) ->
         words,
         constraints,
         source,
+        others: &[],
         failing_load: 0,
         failing_write: 0,
     }
@@ -74,6 +79,12 @@ fn files(alloc: Global, case: &Case) -> Result<Vec<(String, Vec<u8>)>, AllocErro
     for (name, text) in [("m.rdc", case.constraints), ("m.v", case.source)] {
         all.push((
             String::from_str(alloc, name)?,
+            text.as_bytes().to_vec(alloc)?,
+        ))?;
+    }
+    for (name, text) in case.others {
+        all.push((
+            String::from_str(alloc, *name)?,
             text.as_bytes().to_vec(alloc)?,
         ))?;
     }
@@ -261,12 +272,13 @@ fn what_is_not_built_is_refused(rt: HostRuntime) -> Result<(), Fail> {
 
 #[test]
 fn words_that_ask_for_nothing_are_usage(rt: HostRuntime) -> Result<(), Fail> {
-    let lines: [&[&str]; 5] = [
+    let lines: [&[&str]; 6] = [
         &[],
         &["check", "m"],
+        &["check", "m", "m.rdc"],
         &["prove", "m", "m.rdc", "m.v"],
-        &["check", "m", "m.rdc", "m.v", "n.v"],
         &["check", "m", "m.rdc", "-"],
+        &["check", "m", "m.rdc", "m.v", "-m.v"],
     ];
     for words in lines {
         expect(
