@@ -1,21 +1,15 @@
 -- The roles of a netlist's sources, and the marks of its nodes.
-use Rattle.std.proofs.Common.{◌≡◌, ℕ, zero, suc, ◌+◌, ◌<◌, Bool, true, false, ◌||◌, IsTrue, List, [], ◌∷◌, ◌++◌, map, filter, length, get_or, slice_get, take, Some, refl, sym, ap, subst, ◌∙◌, inl, inr, arith}
-use Rattle.std.specs.List.{AllByRecursion, list_any}
-use Rattle.std.specs.Prelude.{◌↔◌}
-use Rattle.std.proofs.lemmas.Bool.{cases_Bool}
-use Rattle.std.proofs.lemmas.List.{get_or-map, length-map, map-append}
-use Rattle.thin_form.specs.Formula.{Formula, sources_in}
-use Rattle.thin_form.specs.Formula.{Source as formula_source}
+use Rattle.std.proofs.Common.{◌≡◌, ℕ, zero, suc, ◌<◌, Bool, true, false, IsTrue, List, [], ◌∷◌, map, filter, length, slice_get, Some, refl, sym, ap, subst, ◌∙◌, arith}
+use Rattle.std.specs.List.{AllByRecursion}
+use Rattle.thin_form.specs.Formula.{Formula}
 use Rattle.thin_form.specs.Design as designs
 use Rattle.thin_form.specs.Design.{Wire}
-use Rattle.thin_form.specs.Netlist.{NetBit, Netlist, IsLawful, formula_at, formula_of, formulas, flop_of, kind_of, wire_of, design_of, name_at, kind_at}
-use Rattle.thin_form.specs.NodeReads.{ReadsBelow}
+use Rattle.thin_form.specs.Netlist.{NetBit, Netlist, IsLawful, formulas, flop_of, kind_of, wire_of, design_of, name_at, kind_at}
 use Rattle.thin_form.specs.declared.kind.Kind.{Kind}
 use Rattle.thin_form.specs.declared.kind.Kind.TheVariants.{Input, Register}
 use Rattle.thin_form.specs.declared.kind.Flop.{Flop}
-use Rattle.thin_form.specs.declared.kind.Node.{Node}
-use Rattle.thin_form.proofs.DesignOf.{name_at-design_of, kind_at-design_of, length-design_of, names-design_of, formulas-push, length-formulas, take_get}
-use Rattle.thin_cons.specs.Roles.{role_at, reads_clock, is_clock, IsMet, IsMetAt, AreWiresMet}
+use Rattle.thin_form.proofs.DesignOf.{name_at-design_of, kind_at-design_of, length-design_of, names-design_of}
+use Rattle.thin_cons.specs.Roles.{role_at, IsMet, IsMetAt}
 use Rattle.thin_cons.specs.Step.{IsFreeInput}
 use Rattle.thin_cons.specs.declared.role.Role.{Role}
 use Rattle.thin_cons.specs.declared.role.Role.TheVariants as roles

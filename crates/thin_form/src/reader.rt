@@ -13,11 +13,7 @@ use std::alloc::Global;
 use thin_tree::{FormFault, parse};
 
 /// The design that tokens spell as the module `top`, its names lent by the text. A token is its bytes.
-pub fn read<'a>(
-    alloc: Global,
-    top: &[u8],
-    tokens: &[&'a [u8]],
-) -> Result<Netlist<'a>, FormFault>
+pub fn read<'a>(alloc: Global, top: &[u8], tokens: &[&'a [u8]]) -> Result<Netlist<'a>, FormFault>
     requires { length tokens.now < 2 ^ 32 }
     ensures design { IfOk result (λ d. Spells top.now (texts tokens.now) (design_of d)) }
     ensures not_of_form { IsErrOf result FormFault.NotOfForm → (d : Design) → Spells top.now (texts tokens.now) d → ⊥ }

@@ -1,5 +1,5 @@
 -- Tokens are no fewer than the names and steps of the tree that they write.
-use Rattle.std.proofs.Common.{◌≡◌, ℕ, suc, ◌+◌, ◌<◌, ◌≤◌, Bool, false, List, [], ◌∷◌, ◌++◌, length, length-append, Option, Some, None, Result, Ok, Err, refl, sym, ap, ◌∙◌, arith}
+use Rattle.std.proofs.Common.{◌≡◌, ℕ, ◌+◌, ◌<◌, ◌≤◌, List, [], ◌∷◌, ◌++◌, length, length-append, Result, Ok, Err, ap, arith}
 use Rattle.std.specs.List.{flat_map}
 use Rattle.std.specs.Prelude.{IfOk, codes}
 use Rattle.thin_tree.specs.Tree.{Expr, Name, Brackets, Not, And, Or, Declared, Assignment, Process, Item, Wire, Reg, Assign, Always, Module}

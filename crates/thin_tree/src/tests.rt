@@ -28,8 +28,8 @@ const STEPS: [(&str, &str); 17] = [
 ];
 
 const NO_EXPRESSIONS: [&str; 18] = [
-    "", "&", "a &", "& a", "a |", "| a", "a b", "a ~ b", "~", "~ ~ a", "( )", "( a", "a )", "a & & b",
-    "a | | b", "! a", "1'b0", "a = b",
+    "", "&", "a &", "& a", "a |", "| a", "a b", "a ~ b", "~", "~ ~ a", "( )", "( a", "a )",
+    "a & & b", "a | | b", "! a", "1'b0", "a = b",
 ];
 
 const NO_ITEMS: [&str; 33] = [
@@ -135,10 +135,7 @@ fn tokens_of(alloc: Global, text: &str) -> Result<Vec<&[u8]>, AllocError> {
 /// Whether the text's tokens are of another form.
 fn is_refused(alloc: Global, text: &str) -> Result<bool, AllocError> {
     let tokens = tokens_of(alloc, text)?;
-    Ok(matches!(
-        parse(alloc, &tokens),
-        Err(FormFault::NotOfForm)
-    ))
+    Ok(matches!(parse(alloc, &tokens), Err(FormFault::NotOfForm)))
 }
 
 fn nested(alloc: Global, pairs: usize) -> Result<Vec<&'static [u8]>, AllocError> {

@@ -2,7 +2,6 @@
 use Rattle.std.proofs.Common.{◌≡◌, ℕ, ◌≤◌, ◌<◌, List, [], ◌∷◌, ◌++◌, Option, Some, None, Result, Ok, Err, length, sym, ap, subst, ◌∙◌, arith}
 use Rattle.std.specs.Option.{IsSomeAnd}
 use Rattle.rdc_outside.specs.Shelf.{Files}
-use Rattle.rdc_outside.specs.declared.source.Text.{Text}
 use Rattle.vlog_items.specs.Items.{Item, items_of_file}
 use Rattle.vlog_pre.specs.declared.fault.PreFault.{PreFault}
 use Rattle.vlog_pre.specs.declared.fault.PreFault.TheVariants.{Memory, Absent, Read, TooLong}

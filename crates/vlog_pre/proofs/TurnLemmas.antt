@@ -1,5 +1,5 @@
 -- Loads and turns.
-use Rattle.std.proofs.Common.{◌⊎◌, Some, None, sym, ◌∙◌, subst, ⊎_elim, append-nil, ◌≡◌, ℕ, List, [], ◌∷◌, ◌++◌, Option, Result, Ok, Err, refl, ap, inl, inr}
+use Rattle.std.proofs.Common.{◌⊎◌, sym, ◌∙◌, subst, ⊎_elim, append-nil, ◌≡◌, ℕ, List, [], ◌∷◌, ◌++◌, Option, Result, Ok, Err, refl, ap, inl, inr}
 use Rattle.std.specs.Option.{option_map}
 use Rattle.rdc_outside.specs.Shelf.{Files, Calls, Load, list_call, calls_after_load}
 use Rattle.rdc_outside.specs.declared.faults.LoadFault.{LoadFault}

@@ -1,5 +1,5 @@
 -- The stages give the file, the roles and the flops, or leave no declaration.
-use Rattle.std.proofs.Common.{◌≡◌, map, sym, subst}
+use Rattle.std.proofs.Common.{map, sym, subst}
 use Rattle.std.proofs.lemmas.Result.{err_from_is_err_and}
 use Rattle.thin_form.specs.Netlist.{design_of}
 use Rattle.thin_cons.specs.Forms.{declaration_of}

@@ -1,5 +1,5 @@
 -- Each wire is met in turn.
-use Rattle.std.proofs.Common.{◌≡◌, ◌<◌, ℕ, length, false, IsTrue, refl, sym, ap, subst, ◌∙◌, inl, inr, arith}
+use Rattle.std.proofs.Common.{◌≡◌, ◌<◌, length, false, IsTrue, refl, sym, subst, ◌∙◌, inl, inr, arith}
 use Rattle.std.proofs.lemmas.Bool.{cases_lt}
 use Rattle.std.proofs.lemmas.Option.{slice_get_within}
 use Rattle.thin_form.specs.Netlist.{NetBit, formulas, wire_of}

@@ -14,7 +14,7 @@ turns-preserved g c =
     let between = g.S.Shelf.calls c.turns.shelf in
     let names = map string_bytes c.turns.files in
     let copied : IsTurn told calls (state_of c.args.known.now) c.args.reader.now.items (Ok tt) (state_of c.copy.new.known) names c.copy.new.reader.items between =
-        turn_more told calls between between (state_of c.args.known.now) (state_of c.turns.known) (state_of c.copy.new.known) names names c.args.reader.now.items c.turns.reader.items c.copy.new.reader.items c.turns.invariant.reached (copy_turn told between (state_of c.turns.known) (state_of c.copy.new.known) names c.turns.reader.items c.copy.new.reader.items c.in-Ok.ensures.copied) in
+    turn_more told calls between between (state_of c.args.known.now) (state_of c.turns.known) (state_of c.copy.new.known) names names c.args.reader.now.items c.turns.reader.items c.copy.new.reader.items c.turns.invariant.reached (copy_turn told between (state_of c.turns.known) (state_of c.copy.new.known) names c.turns.reader.items c.copy.new.reader.items c.in-Ok.ensures.copied) in
     record {
       reached = turn_more told calls between (g.S.Shelf.calls c.turn.new.shelf) (state_of c.args.known.now) (state_of c.copy.new.known) (state_of c.turn.new.known) names (map string_bytes c.turn.new.files) c.args.reader.now.items c.copy.new.reader.items c.turn.new.reader.items copied (rw (← c.turns.invariant.same) c.in-Ok-turn.ensures.value);
       same = c.turn.ensures.same ∙ c.turns.invariant.same;
@@ -35,7 +35,7 @@ returns-in-Err-clause-value g c =
     let between = g.S.Shelf.calls c.turns.shelf in
     let names = map string_bytes c.turns.files in
     let copied : IsTurn told calls (state_of c.args.known.now) c.args.reader.now.items (Ok tt) (state_of c.copy.new.known) names c.copy.new.reader.items between =
-        turn_more told calls between between (state_of c.args.known.now) (state_of c.turns.known) (state_of c.copy.new.known) names names c.args.reader.now.items c.turns.reader.items c.copy.new.reader.items c.turns.invariant.reached (copy_turn told between (state_of c.turns.known) (state_of c.copy.new.known) names c.turns.reader.items c.copy.new.reader.items c.in-Ok.ensures.copied) in
+    turn_more told calls between between (state_of c.args.known.now) (state_of c.turns.known) (state_of c.copy.new.known) names names c.args.reader.now.items c.turns.reader.items c.copy.new.reader.items c.turns.invariant.reached (copy_turn told between (state_of c.turns.known) (state_of c.copy.new.known) names c.turns.reader.items c.copy.new.reader.items c.in-Ok.ensures.copied) in
     turn_stops told calls between (g.S.Shelf.calls c.turn.new.shelf) (state_of c.args.known.now) (state_of c.copy.new.known) (state_of c.turn.new.known) names (map string_bytes c.turn.new.files) c.args.reader.now.items c.copy.new.reader.items c.turn.new.reader.items c.in-Err.fault copied (rw (← c.turns.invariant.same) c.in-Err.ensures.value)
 
 pub returns-in_default-clause-value : goal.returns-in_default-clause-value
