@@ -1,17 +1,16 @@
 -- Serves specs/Ends.antt and specs/Signoff.antt: how the stages of a call join, and which status each end has.
-use Rattle.std.proofs.Common.{◌≡◌, ℕ, ◌≤◌, Bool, true, false, cond, List, [], ◌∷◌, ◌++◌, length, Option, Some, None, Ok, Err, refl, sym, ap, subst, ◌∙◌, inl, inr, ◌⊎◌, arith}
+use Rattle.std.proofs.Common.{◌≡◌, ℕ, ◌≤◌, Bool, true, false, cond, List, [], ◌∷◌, ◌++◌, length, Option, Some, None, Ok, Err, refl, sym, ap, subst, ◌∙◌, inl, inr, ◌⊎◌}
 use Rattle.std.specs.Prelude.{IsSomeAnd, IfSome}
 use Rattle.rdc_outside.specs.Shelf.{Files, Calls, Call, Load, list_call}
 use Rattle.rdc_outside.specs.declared.outcome.Status.{Status}
 use Rattle.rdc_outside.specs.declared.source.Place.{Place}
 use Rattle.rdc_outside.specs.declared.source.Text.{Text}
-use Rattle.rdc_outside.proofs.CountsLemmas.{Rose-widen}
 use Rattle.vlog_pre.specs.declared.fault.PreFault.{PreFault}
 use Rattle.vlog_pre.specs.declared.fault.PreFault.TheVariants as pre
 use Rattle.vlog_pre.specs.declared.fault.Stopped.{Stopped}
 use Rattle.vlog_pre.specs.Known.{State}
 use Rattle.vlog_pre.specs.Expansion.{Expands, first_state, first_items}
-use Rattle.vlog_pre.specs.Answer.{HasPlace, IsExpansion, IsAnswer, CountsFault, calls_with}
+use Rattle.vlog_pre.specs.Answer.{HasPlace, IsExpansion, IsAnswer, calls_with}
 use Rattle.vlog_lex.specs.declared.fault.LexFault.{LexFault}
 use Rattle.vlog_lex.specs.declared.fault.LexFault.TheVariants as lex
 use Rattle.vlog_lex.specs.Tokens.{AreTokens, IsFault}
@@ -20,8 +19,8 @@ use Rattle.rdcsign.specs.Request.{Request, request_of, texts}
 use Rattle.rdcsign.specs.Outcome.{Outcome, Usage, Absent, Read, Source, NotYet, Memory, Judged, status_of, cut_status, Says}
 use Rattle.rdcsign.specs.Faults.{stopped, unread}
 use Rattle.rdcsign.specs.Lexemes.{lexemes}
-use Rattle.rdcsign.specs.Ends.{IsLoaded, IsRefusedLoad, loads_of, load_unless_memory, IsOrMemory, IsStopped, ExpandTo, IsUnread, HasTokens, DeclaresNone, IsJudgement, IsReport, Ends, EndsRequest, at_constraints, at_sources, at_tokens, with_all}
-use Rattle.rdcsign.specs.Loads.{with_loads, CountsRefusal}
+use Rattle.rdcsign.specs.Ends.{IsLoaded, IsRefusedLoad, loads_of, load_unless_memory, IsOrMemory, ExpandTo, HasTokens, DeclaresNone, IsJudgement, IsReport, Ends, EndsRequest, at_constraints, at_sources, at_tokens, with_all}
+use Rattle.rdcsign.specs.Loads.{with_loads}
 use Rattle.rdcsign.specs.Answers.{EndsText, no_tokens, judged, EndsListed, EndsWords}
 use Rattle.rdcsign.specs.Signoff.{IsThere, IsTooBig, AreRead, IsJudgedAs, IsMissing, IsFaulty, IsUnformed, IsCauseFor, IsCauseOf, IsCause}
 

@@ -1,5 +1,5 @@
 -- Serves specs/Headline.antt: a call that answers clean has judged the one design that the files spell, and that design is safe.
-use Rattle.std.proofs.Common.{◌≡◌, ℕ, Bool, true, false, List, Option, Some, None, Result, Ok, Err, refl, sym, ap, subst, ◌∙◌, inl, inr}
+use Rattle.std.proofs.Common.{◌≡◌, ℕ, Bool, true, false, List, Option, Some, None, Result, Ok, refl, sym, ap, subst, ◌∙◌, inl, inr}
 use Rattle.std.specs.Prelude.{IfSome}
 use Rattle.rdc_outside.specs.Shelf.{Files, Call}
 use Rattle.rdc_outside.specs.declared.outcome.Status.{Status}

@@ -2,7 +2,7 @@
 --     SignsOff      the whole call
 --     AreRead, Spell, IsJudgedAs, IsMissing, IsFaulty, IsUnformed      what the told files say of a request
 --     IsCause      when each status comes
-use Rattle.std.specs.Prelude.{◌≡◌, ◌<◌, ◌≤◌, ◌⊎◌, ℕ, Bool, true, false, List, length, Option, Some, None, Ok, Err, IsSomeAnd}
+use Rattle.std.specs.Prelude.{◌≡◌, ◌<◌, ◌≤◌, ◌⊎◌, ℕ, Bool, true, false, List, length, Option, Some, None, Err, IsSomeAnd}
 use Rattle.rdc_outside.specs.Shelf.{Files, Calls, Call}
 use Rattle.rdc_outside.specs.declared.outcome.Status.{Status}
 use Rattle.rdc_outside.specs.declared.outcome.Status.TheVariants as statuses

@@ -94,7 +94,8 @@ fn a_missing_file_is_named(rt: HostRuntime) -> Result<(), Fail> {
 #[test]
 fn what_is_expanded_is_judged(rt: HostRuntime) -> Result<(), Fail> {
     let head = "module m(input ca, input cb, input ra, input rb, input d, output reg q);\nreg a;\n";
-    let flop = "`define FLOP(q, c, r, d) always @(posedge c or negedge r) if (!r) q <= 1'b0; else q <= d;\n";
+    let flop =
+        "`define FLOP(q, c, r, d) always @(posedge c or negedge r) if (!r) q <= 1'b0; else q <= d;\n";
     let rows = [
         ("`FLOP(a, ca, ra, d)\n`FLOP(q, cb, rb, a)\n", false),
         ("`FLOP(a, ca, ra, d)\n`FLOP(q, cb, ra, a)\n", true),
@@ -198,8 +199,16 @@ fn a_faulty_source_is_refused_at_its_place(rt: HostRuntime) -> Result<(), Fail> 
 fn the_second_file_is_named_by_its_faults(rt: HostRuntime) -> Result<(), Fail> {
     let words = ["check", "m", "m.rdc", "m.v", "p.v"];
     let rows = [
-        ("`endif", Status::Source, "refused source unbalanced p.v:1:1\n"),
-        ("\n1'b", Status::Source, "refused source badnumber p.v:2:1\n"),
+        (
+            "`endif",
+            Status::Source,
+            "refused source unbalanced p.v:1:1\n",
+        ),
+        (
+            "\n1'b",
+            Status::Source,
+            "refused source badnumber p.v:2:1\n",
+        ),
         // what is of no form is named by the first file
         ("endmodule", Status::NotYet, "refused notyet m.v\n"),
     ];
