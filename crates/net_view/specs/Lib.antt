@@ -1,3 +1,7 @@
 pub mod View
 pub mod Values
 pub mod FlopNet
+pub mod Cone
+pub mod Slice
+pub mod LeastFirst
+pub mod PinOrder
