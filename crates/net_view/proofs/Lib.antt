@@ -1,1 +1,3 @@
-pub mod ValuesLemmas
+mod ValuesLemmas
+pub mod Members
+pub mod ConeLemmas

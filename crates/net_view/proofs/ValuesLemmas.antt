@@ -30,7 +30,7 @@ reads_more P Q R S (Xor a b) p q h = (p a h.0, p b h.1)
 reads_more P Q R S (Pick c a b) p q h = (p c h.0, p a h.1, p b h.2)
 reads_more P Q R S (Lift c a b) p q h = (p c h.0, p a h.1)
 
-some_is : (a b : Numbered) → some a ≡ some b → a ≡ b
+pub some_is : (a b : Numbered) → some a ≡ some b → a ≡ b
 some_is a b e = cc
 
 -- equal fan-ins and sources give equal values

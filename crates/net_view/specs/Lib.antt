@@ -5,3 +5,4 @@ pub mod Cone
 pub mod Slice
 pub mod LeastFirst
 pub mod PinOrder
+pub mod Due

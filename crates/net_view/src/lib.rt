@@ -6,13 +6,16 @@
 //! The net: stands on `rdc_tern`. The event model and every analysis are generic over these traits.
 #![tactic(auto)]
 
+mod cone;
 mod evaluation;
+mod fault;
 mod flop_net;
 mod gate;
 mod laws;
 mod view;
 
 pub use evaluation::eval_into;
+pub use fault::ConeFault;
 pub use flop_net::{FlopNet, FlopOf, SrcKind};
 pub use gate::Gate;
 pub use laws::{one_valuation, settled_in_settled_out};
