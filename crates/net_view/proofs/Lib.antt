@@ -1,3 +1,4 @@
 mod ValuesLemmas
 pub mod Members
 pub mod ConeLemmas
+pub mod SourceLemmas

@@ -56,6 +56,10 @@ adds_both P Q R a b c both first second = record {
   );
 }
 
+-- a list added to nothing
+pub adds_itself : (xs : List ℕ) → Adds (Contains xs) [] xs
+adds_itself xs = record { each = λ n. (λ h. inl h, λ h. elim h [ inl h ↦ h | inr none ↦ absurd (contains_none n none) ]) }
+
 -- nothing more
 pub adds_none : (P : ℕ → Type 0) (old : List ℕ) → ((n : ℕ) → P n → ⊥) → Adds P old old
 adds_none P old none = record { each = λ n. (λ h. inr h, λ h. elim h [ inl p ↦ absurd (none n p) | inr h ↦ h ]) }

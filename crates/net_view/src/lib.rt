@@ -6,7 +6,7 @@
 //! The net: stands on `rdc_tern`. The event model and every analysis are generic over these traits.
 #![tactic(auto)]
 
-mod cone;
+mod cones;
 mod evaluation;
 mod fault;
 mod flop_net;
@@ -14,6 +14,7 @@ mod gate;
 mod laws;
 mod view;
 
+pub use cones::cone;
 pub use evaluation::eval_into;
 pub use fault::ConeFault;
 pub use flop_net::{FlopNet, FlopOf, SrcKind};

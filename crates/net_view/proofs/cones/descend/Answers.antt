@@ -3,16 +3,15 @@ use Rattle.std.proofs.lemmas.List.{nil_from_length}
 use Rattle.std.proofs.lemmas.List.Elements.{All-map}
 use Rattle.std.proofs.lemmas.List.Sorted.{le_from_greatest}
 use Rattle.net_view.proofs.ValuesLemmas.{reads_more}
+use Rattle.net_view.proofs.Members.{adds_itself}
 use Rattle.net_view.proofs.ConeLemmas.{Walk, walk_start, walk_again, walk_down, walk_end}
-use Rattle.net_view.proofs.cone.nodes_of.Goals as goal
+use Rattle.net_view.proofs.SourceLemmas.{cones_inside}
+use Rattle.net_view.proofs.cones.descend.Goals as goal
 
 pub due-init : goal.due-init
 due-init g c = record {
-  heap = c.in_ok-due.ensures.heap;
-  walk =
-      rw c.new-found.ensures.items
-      (walk_start _ _ _ _ (All-map (λ (r : ℕ). r < length (g.V.View.gates c.args.view.now)) g.V.View.node_number c.args.roots.now c.requires)
-      c.nodes-last.ensures.count c.in_ok-due.ensures.items);
+  heap = c.requires.heap;
+  walk = rw c.new-found.ensures.items (walk_start _ _ _ _ c.requires.inside c.nodes-last.ensures.count (adds_itself (heap_items c.args.due)));
 }
 
 pub put_fan_ins-requires : goal.put_fan_ins-requires
@@ -24,8 +23,8 @@ put_fan_ins-requires g c = record {
       (c.nodes-last.ensures.lawful.lower _ _ c.gate_at.ensures);
 }
 
-pub due-preserved-in-Continue-branch-3 : goal.due-preserved-in-Continue-branch-3
-due-preserved-in-Continue-branch-3 g c =
+pub due-preserved-in-Continue-branch-2 : goal.due-preserved-in-Continue-branch-2
+due-preserved-in-Continue-branch-2 g c =
     let popped = c.in-Some.ensures.heap_order c.due.invariant.heap in
     record {
       heap = c.in_ok-put_fan_ins.ensures.heap popped.0;
@@ -40,9 +39,11 @@ due-preserved g c =
     let popped = c.in-Some.ensures.heap_order c.due.invariant.heap in
     record { heap = popped.0; walk = walk_again _ _ _ _ _ _ _ c.due.invariant.walk c.in-Some.ensures.permutation c.if-n-last.false }
 
-pub returns : goal.returns
-returns g c =
+pub returns-clause-nodes : goal.returns-clause-nodes
+returns-clause-nodes g c =
     let empty : heap_items c.due.due ≡ [] = nil_from_length (heap_items c.due.due) (omega (arith, c.in_default.ensures.none, c.due.due.data.ok)) in
     rw c.reverse.ensures.items
-    (walk_end _ _ _ _
-    (subst (λ (zs : List ℕ). Walk (g.V.View.gates c.args.view.now) (map g.V.View.node_number c.args.roots.now) zs c.due.found.items c.due.last) empty c.due.invariant.walk))
+    (walk_end _ _ _ _ (subst (λ (zs : List ℕ). Walk (g.V.View.gates c.args.view.now) (heap_items c.args.due) zs c.due.found.items c.due.last) empty c.due.invariant.walk))
+
+pub returns-clause-inside : goal.returns-clause-inside
+returns-clause-inside g c = cones_inside _ _ _ _ c.nodes-last.ensures.lawful c.requires.inside (returns-clause-nodes g c)

@@ -1,6 +1,6 @@
 use Rattle.std.proofs.Common.{◌<◌, length, get_or, arith, sym}
 use Rattle.net_view.proofs.Members.{adds_more}
-use Rattle.net_view.proofs.cone.put_roots.Goals as goal
+use Rattle.net_view.proofs.cones.put_roots.Goals as goal
 
 pub roots-preserved : goal.roots-preserved
 roots-preserved g c = record {

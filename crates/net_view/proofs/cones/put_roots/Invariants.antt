@@ -2,7 +2,7 @@ use Rattle.std.proofs.Common.{List, [], ℕ, map, take, Contains}
 use Rattle.std.specs.Ordering.{nat_cmp}
 use Rattle.std.specs.BinaryHeap.{heap_items, IsHeap}
 use Rattle.net_view.specs.Due.{Adds}
-use Rattle.net_view.proofs.cone.put_roots.Given as goal
+use Rattle.net_view.proofs.cones.put_roots.Given as goal
 
 abbrev pub invariant-roots : goal.invariant-roots
 invariant-roots g l = record {

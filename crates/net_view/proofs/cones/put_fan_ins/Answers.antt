@@ -2,7 +2,7 @@ use Rattle.std.proofs.Common.{◌≡◌, ◌⊎◌, ℕ, subst}
 use Rattle.std.proofs.lemmas.Result.{on_ok_weaker}
 use Rattle.net_view.specs.Due.{Adds, IsEither}
 use Rattle.net_view.proofs.Members.{adds_both}
-use Rattle.net_view.proofs.cone.put_fan_ins.Goals as goal
+use Rattle.net_view.proofs.cones.put_fan_ins.Goals as goal
 
 pub returns-in-Not-clause-items : goal.returns-in-Not-clause-items
 returns-in-Not-clause-items g c = rw c.in-Not.is c.put.ensures.items

@@ -2,7 +2,7 @@ use Rattle.std.proofs.Common.{◌≡◌, ℕ}
 use Rattle.std.proofs.lemmas.Result.{on_ok_weaker}
 use Rattle.net_view.specs.Due.{Adds, IsEither}
 use Rattle.net_view.proofs.Members.{adds_both}
-use Rattle.net_view.proofs.cone.put_two.Goals as goal
+use Rattle.net_view.proofs.cones.put_two.Goals as goal
 
 pub returns-clause-items : goal.returns-clause-items
 returns-clause-items g c =

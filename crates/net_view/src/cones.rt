@@ -1,11 +1,12 @@
 //! Cones: what a node's logic reads.
 
 ghost use Rattle.std.specs.Prelude.{◌≡◌, ◌↔◌, ◌⊎◌, ℕ, ◌+◌, ◌<◌, ◌≤◌, List, [], ◌∷◌, length, map, slice_get, Some, All, Contains, OnOk, IfOk, IsPermutation};
+ghost use Rattle.std.specs.List.Sorted.{IsStrictlyIncreasing};
 ghost use Rattle.std.specs.Ordering.{nat_cmp};
 ghost use Rattle.std.specs.BinaryHeap.{heap_items, heap_len, IsHeap, KeepsHeap};
 ghost use Rattle.net_view.specs.View.{Numbered, Reads, renumbered, IsGateAt};
-ghost use Rattle.net_view.specs.Cone.{IsFanIn, InCones, Lists};
-ghost use Rattle.net_view.specs.Due.{Adds, IsEither};
+ghost use Rattle.net_view.specs.Cone.{IsFanIn, InCones, ReadsSource, Lists};
+ghost use Rattle.net_view.specs.Due.{Adds, IsEither, IsSourceAmong};
 
 use crate::fault::ConeFault;
 use crate::gate::Gate;
@@ -79,7 +80,7 @@ fn put_fan_ins<V: View>(
 }
 
 /// The roots, to look at.
-fn put_roots<V: View>(
+pub(crate) fn put_roots<V: View>(
     alloc: Global,
     view: &V,
     roots: &[V::Node],
@@ -95,19 +96,20 @@ fn put_roots<V: View>(
     Ok(due)
 }
 
-/// The numbers of the nodes in the cones of the roots, ascending, each once.
+/// The numbers of the nodes in the cones of those that are due, ascending, each once.
 ///
 /// Fan-ins have lower numbers, so from the greatest down each node comes after all that read it, and equal numbers come
 /// next to each other.
-pub(crate) fn nodes_of<V: View>(
+pub(crate) fn descend<V: View>(
     alloc: Global,
     view: &V,
-    roots: &[V::Node],
+    mut due: BinaryHeap<u32>,
 ) -> Result<Vec<u32>, ConeFault>
-    requires { All (λ r. V.node_number r < length (V.gates view.now)) roots.now }
-    ensures { IfOk result (λ found. Lists (InCones (V.gates view.now) (map V.node_number roots.now)) found.items) }
+    requires heap { IsHeap nat_cmp (heap_items due) }
+    requires inside { All (λ n. n < length (V.gates view.now)) (heap_items due) }
+    ensures nodes { IfOk result (λ found. Lists (InCones (V.gates view.now) (heap_items due)) found.items) }
+    ensures inside { IfOk result (λ found. All (λ n. n < length (V.gates view.now)) found.items) }
 {
-    let mut due = put_roots(alloc, view, roots)?;
     let mut found = Vec::new(alloc);
     let mut last = view.nodes();
     'due: while let Some(n) = due.pop() {
@@ -119,4 +121,45 @@ pub(crate) fn nodes_of<V: View>(
     }
     found.reverse();
     Ok(found)
+}
+
+/// The sources among some nodes, each with its number, in source order.
+pub(crate) fn sources_of<V: View>(
+    alloc: Global,
+    view: &V,
+    nodes: &[u32],
+) -> Result<Vec<(u32, V::Src)>, ConeFault>
+    requires inside { All (λ n. n < length (V.gates view.now)) nodes.now }
+    requires rising { IsStrictlyIncreasing nodes.now }
+    ensures numbers { IfOk result (λ found. All (λ p. p.0 ≡ V.source_number p.1) found.items) }
+    ensures sources { IfOk result (λ found. Lists (IsSourceAmong (V.gates view.now) nodes.now) (map (λ p. p.0) found.items)) }
+{
+    let mut found = Vec::new(alloc);
+    let _nodes = view.nodes();
+    'nodes: for n in nodes {
+        if let Gate::Source(s) = gate_at(view, *n) {
+            found.push((view.src_index(s), s))?;
+        }
+    }
+    found.sort_unstable_by_key(|pair| pair.0);
+    Ok(found)
+}
+
+/// The sources without their numbers.
+pub(crate) fn bare<S: Drop>(alloc: Global, sources: Vec<(u32, S)>) -> Result<Vec<S>, ConeFault>
+    ensures { IfOk result (λ bare. bare.items ≡ map (λ p. p.1) sources.items) }
+{
+    Ok(sources.into_iter().map(|(_, s)| s).collect(alloc)?)
+}
+
+/// The sources that a node's logic reads, each once, in source order.
+pub fn cone<V: View>(alloc: Global, view: &V, n: V::Node) -> Result<Vec<V::Src>, ConeFault>
+    requires { V.node_number n < length (V.gates view.now) }
+    ensures { IfOk result (λ found. Lists (ReadsSource (V.gates view.now) (V.node_number n)) (map V.source_number found.items)) }
+{
+    let mut due = BinaryHeap::new(alloc);
+    put(view, n, &mut due)?;
+    let nodes = descend(alloc, view, due)?;
+    let sources = sources_of(alloc, view, &nodes)?;
+    bare(alloc, sources)
 }
