@@ -2,3 +2,4 @@ mod ValuesLemmas
 pub mod Members
 pub mod ConeLemmas
 pub mod SourceLemmas
+pub mod SliceLemmas

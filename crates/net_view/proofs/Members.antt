@@ -1,7 +1,10 @@
 -- Serves specs/Cone.antt: what lists contain, as they grow, are put in another order, and rise.
-use Rattle.std.proofs.Common.{◌≡◌, ◌↔◌, ◌⊎◌, inl, inr, ℕ, ◌+◌, ◌<◌, List, [], ◌∷◌, ◌++◌, length, reverse, map, take, get_or, All, Contains, IsPermutation, sym, subst, arith}
+use Rattle.std.proofs.Common.{◌≡◌, ◌↔◌, ◌⊎◌, inl, inr, ℕ, ◌+◌, ◌<◌, List, [], ◌∷◌, ◌++◌, length, reverse, map, take, get_or, All, Contains, IsPermutation, sym, subst, zero, suc, ◌≤◌, ◌∙◌, arith}
 use Rattle.std.proofs.lemmas.List.Elements.{Contains-append_left, Contains-append_right, Contains-append_cases, Contains-push, Contains-push_cases, Contains-get_or}
-use Rattle.std.proofs.lemmas.List.{map_more}
+use Rattle.std.specs.List.Sorted.{IsStrictlyIncreasing}
+use Rattle.std.proofs.lemmas.Bool.{cases_lt}
+use Rattle.std.proofs.lemmas.List.{map_more, get_or_default}
+use Rattle.std.proofs.lemmas.List.Kept.{AllPairs-from_increasing}
 use Rattle.std.proofs.lemmas.List.Sorted.{Contains-permutation, IsPermutation-sym, IsPermutation-reverse}
 use Rattle.net_view.specs.Due.{Adds}
 
@@ -76,3 +79,38 @@ adds_more number xs i d old new lt before more =
       λ h. elim h [ inl p ↦ Contains-append_left (map number (take i xs)) (number (get_or xs i d) ∷ []) n p | inr is ↦ subst (λ (z : ℕ). Contains pushed z) (sym is) (Contains-push (map number (take i xs)) (number (get_or xs i d))) ],
     ) in
     subst (λ (zs : List ℕ). Adds (Contains zs) [] new) (sym (map_more number xs i d lt)) (adds_both P Q (Contains pushed) [] old new cases before more)
+
+-- of two places of a rising list the later has the greater number
+pub rising_lt : (xs : List ℕ) → IsStrictlyIncreasing xs → (i j : ℕ) → i < j → j < length xs → get_or xs i 0 < get_or xs j 0
+rising_lt xs rising i j lt within = AllPairs-from_increasing xs rising i j 0 lt within
+
+pub rising_le : (xs : List ℕ) → IsStrictlyIncreasing xs → (i j : ℕ) → i ≤ j → j < length xs → get_or xs i 0 ≤ get_or xs j 0
+rising_le xs rising i j le within = elim (cases_lt i j) [
+  | inl lt ↦ let up = rising_lt xs rising i j lt within in omega arith
+  | inr ge ↦ let same : i ≡ j = omega arith in subst (λ (k : ℕ). get_or xs i 0 ≤ get_or xs k 0) same (omega arith)
+]
+
+-- equal numbers of a rising list stand at one place
+pub rising_once : (xs : List ℕ) → IsStrictlyIncreasing xs → (i j : ℕ) → i < length xs → j < length xs → get_or xs i 0 ≡ get_or xs j 0 → i ≡ j
+rising_once xs rising i j i-in j-in same = elim (cases_lt i j) [
+  | inl lt ↦ let up = rising_lt xs rising i j lt j-in in absurd (omega arith)
+  | inr ge ↦ elim (cases_lt j i) [
+    | inl lt ↦ let up = rising_lt xs rising j i lt i-in in absurd (omega arith)
+    | inr le ↦ omega arith
+  ]
+]
+
+-- where a number stands
+pub contains_at : (xs : List ℕ) (x : ℕ) → Contains xs x → (k : ℕ) × (k < length xs) × (get_or xs k 0 ≡ x)
+contains_at xs x h = (h.0, h.1, get_or_default xs h.0 0 x h.1 ∙ h.2)
+
+-- rising numbers below a bound are at most so many
+pub rising_above : (xs : List ℕ) → IsStrictlyIncreasing xs → (k : ℕ) → k < length xs → k ≤ get_or xs k 0
+rising_above xs rising zero within = omega arith
+rising_above xs rising (suc k) within = let up = rising_lt xs rising k (suc k) (omega arith) within in let below = rising_above xs rising k (omega arith) in omega arith
+
+pub rising_short : (xs : List ℕ) (bound : ℕ) → IsStrictlyIncreasing xs → All (λ n. n < bound) xs → length xs ≤ bound
+rising_short xs bound rising all = elim (cases_lt bound (length xs)) [
+  | inl lt ↦ let high = rising_above xs rising bound lt in let low = all bound 0 lt in absurd (omega arith)
+  | inr le ↦ le
+]

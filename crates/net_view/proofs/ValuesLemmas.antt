@@ -12,7 +12,7 @@ use Rattle.net_view.specs.declared.gate.Gate.TheVariants.{Const, Source, Not, An
 use Rattle.net_view.specs.View.{Numbered, Reads, IsGateAt, IsNet}
 use Rattle.net_view.specs.Values.{State, at, pick_of, lift_of, gate_value, IsValuation, IsRaised, values, values_after}
 
-abbrev some : Numbered → Option Numbered
+abbrev pub some : Numbered → Option Numbered
 some g = Some g
 
 -- the nodes before the place have their gates' values

@@ -12,6 +12,8 @@ mod fault;
 mod flop_net;
 mod gate;
 mod laws;
+mod slice_ids;
+mod slices;
 mod view;
 
 pub use cones::cone;
@@ -20,4 +22,6 @@ pub use fault::ConeFault;
 pub use flop_net::{FlopNet, FlopOf, SrcKind};
 pub use gate::Gate;
 pub use laws::{one_valuation, settled_in_settled_out};
+pub use slice_ids::{SliceNode, SliceSrc};
+pub use slices::Slice;
 pub use view::View;
