@@ -3,3 +3,4 @@ pub mod Members
 pub mod ConeLemmas
 pub mod SourceLemmas
 pub mod SliceLemmas
+pub mod QueueLemmas

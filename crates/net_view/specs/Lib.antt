@@ -6,3 +6,5 @@ pub mod Slice
 pub mod LeastFirst
 pub mod PinOrder
 pub mod Due
+pub mod Queue
+pub mod QueueOf

@@ -12,6 +12,7 @@ mod fault;
 mod flop_net;
 mod gate;
 mod laws;
+mod queue;
 mod slice_ids;
 mod slices;
 mod view;
