@@ -4,3 +4,5 @@ pub mod ConeLemmas
 pub mod SourceLemmas
 pub mod SliceLemmas
 pub mod QueueLemmas
+pub mod ListingLemmas
+pub mod CycleLemmas

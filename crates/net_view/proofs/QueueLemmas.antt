@@ -1,5 +1,5 @@
 -- Serves specs/Queue.antt: what each step of a queue keeps.
-use Rattle.std.proofs.Common.{◌≡◌, ◌≢◌, ◌↔◌, ◌⊎◌, inl, inr, ℕ, ◌+◌, ◌<◌, ◌≤◌, Bool, true, false, List, [], ◌∷◌, ◌++◌, length, get_or, set, All, AllPairs, Contains, IsPermutation, eqb, sym, subst, ap, refl, ◌∙◌, arith, get_or-set_other, get_or-set_same, length-set}
+use Rattle.std.proofs.Common.{◌≡◌, ◌≢◌, ◌↔◌, ◌⊎◌, inl, inr, ℕ, suc, ◌+◌, ◌<◌, ◌≤◌, Bool, true, false, List, [], ◌∷◌, ◌++◌, length, get_or, set, All, AllPairs, Contains, IsPermutation, eqb, sym, subst, ap, refl, ◌∙◌, arith, get_or-set_other, get_or-set_same, length-set}
 use Rattle.std.specs.Prelude.{slice_index, slice_index_or}
 use Rattle.std.specs.Cmp.{unsigned_Decides, nat_eq_equiv}
 use Rattle.std.proofs.lemmas.Bool.{cases_lt}
@@ -11,10 +11,10 @@ use Rattle.std.proofs.lemmas.Map.Keys.{IsDistinct-IsPermutation}
 use Rattle.std.proofs.lemmas.Map.Made.{IsDistinct-from_AllPairs, AllPairs-from_IsDistinct}
 use Rattle.net_view.specs.Due.{Adds}
 use Rattle.net_view.specs.Queue.{needs_of, Needs, need_at, is_marked, Waits, IsQueue}
-use Rattle.net_view.proofs.Members.{contains_none, contains_head, contains_behind, contains_cases, adds_one, All-from_contains}
+use Rattle.net_view.proofs.Members.{contains_none, contains_head, contains_behind, contains_cases, contains_at, adds_one, All-from_contains}
 
 -- two numbers are equal or not
-same_or_not : (a b : ℕ) → (a ≡ b) ⊎ (a ≢ b)
+pub same_or_not : (a b : ℕ) → (a ≡ b) ⊎ (a ≢ b)
 same_or_not a b = elim (cases_lt a b) [
   | inl lt ↦ inr (λ e. omega arith)
   | inr ge ↦ elim (cases_lt b a) [ inl lt ↦ inr (λ e. omega arith) | inr le ↦ inl (omega arith) ]
@@ -25,7 +25,16 @@ pub apart_moved : (xs ys : List ℕ) → IsPermutation xs ys → AllPairs (λ a 
 apart_moved xs ys moved apart =
     AllPairs-from_IsDistinct unsigned_Decides ys (IsDistinct-IsPermutation eqb (λ x y. nat_eq_equiv.symm x y) xs ys moved (IsDistinct-from_AllPairs unsigned_Decides xs apart))
 
-not_both : (b : Bool) → b ≡ true → b ≡ false → ⊥
+-- the first of numbers that differ is none of the others, and those differ
+pub head_apart : (x y : ℕ) (xs : List ℕ) → AllPairs (λ a b. a ≢ b) (x ∷ xs) → Contains xs y → x ≢ y
+head_apart x y xs apart h e =
+    let there = contains_at xs y h in
+    apart 0 (suc there.0) 0 (omega arith) (let bound = there.1 in omega arith) (e ∙ sym there.2)
+
+pub tail_apart : (x : ℕ) (xs : List ℕ) → AllPairs (λ a b. a ≢ b) (x ∷ xs) → AllPairs (λ a b. a ≢ b) xs
+tail_apart x xs apart i j d lt within e = apart (suc i) (suc j) d (omega arith) (omega arith) e
+
+pub not_both : (b : Bool) → b ≡ true → b ≡ false → ⊥
 not_both b h k = cc
 
 -- an item that is queued needs no place

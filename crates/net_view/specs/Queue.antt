@@ -1,7 +1,10 @@
 -- Items by number that are listed one after another, each once all that it needs is listed.
 --   needs_of, Needs, need_at, is_marked   what an item needs, what it waits for, and marks
 --   Waits, IsQueue                        an item that waits, and the state of the whole
-use Rattle.std.specs.Prelude.{◌≡◌, ◌≢◌, ◌⊎◌, ◌↔◌, ℕ, ◌<◌, ◌≤◌, Bool, true, false, List, [], length, slice_index, slice_index_or, Contains, AllPairs}
+--   Nexts, IsListing, IsCycle             what is listed so far, the whole list, and a cycle
+--   IsStuck, Turns                        items that wait for one another, and a list from its least number on
+use Rattle.std.specs.Prelude.{◌≡◌, ◌≢◌, ◌⊎◌, ◌↔◌, ℕ, ◌<◌, ◌≤◌, Bool, true, false, List, [], ◌∷◌, ◌++◌, take, length, slice_index, slice_index_or, Contains, AllPairs}
+use Rattle.net_view.specs.LeastFirst.{IsNext, IsLeastFirst, IsLoop}
 
 -- what item f needs
 abbrev pub needs_of : List (List ℕ) → ℕ → List ℕ
@@ -42,3 +45,32 @@ pub record IsQueue (needs : List (List ℕ)) (at : List ℕ) (waiting : List (Li
   pub waiting_inside : (g f : ℕ) → Contains (slice_index_or waiting g []) f → f < length needs
   pub apart : (f : ℕ) → Contains ready f → Contains order f → ⊥
   pub once : AllPairs (λ a b. a ≢ b) ready
+
+-- each listed item was the next when it was listed
+pub record Nexts (needs : List (List ℕ)) (order : List ℕ) : Type 0 where
+  pub each : (k : ℕ) → k < length order → IsNext (λ n. n < length needs) (Needs needs) ◌<◌ (take k order) (slice_index order k)
+
+-- all items, the least ready one next each time
+abbrev pub IsListing : List (List ℕ) → List ℕ → Type 0
+IsListing needs = IsLeastFirst (λ n. n < length needs) (Needs needs) ◌<◌
+
+-- one cycle of items, from the least on
+abbrev pub IsCycle : List (List ℕ) → List ℕ → Type 0
+IsCycle needs = IsLoop (λ n. n < length needs) (Needs needs) ◌<◌
+
+-- the items that aren't marked need ones that aren't, at the places where they have come
+pub record IsStuck (needs : List (List ℕ)) (at : List ℕ) (listed : List Bool) : Type 0 where
+  pub at_len : length at ≡ length needs
+  pub listed_len : length listed ≡ length needs
+  pub closed : (f g : ℕ) → Needs needs f g → g < length needs
+  pub each : (f : ℕ) → f < length needs → is_marked listed f ≡ false →
+      (slice_index at f < length (needs_of needs f)) × (is_marked listed (need_at needs at f) ≡ false)
+
+-- the list from its least number on, and then what stands before it
+pub record Turns (cycle turned : List ℕ) : Type 0 where
+  pub front : List ℕ
+  pub least : ℕ
+  pub rest : List ℕ
+  pub was : cycle ≡ front ++ least ∷ rest
+  pub is : turned ≡ least ∷ rest ++ front
+  pub lowest : (n : ℕ) → Contains cycle n → least ≤ n

@@ -14,14 +14,14 @@ index-requires c =
     let f-in = q.inside c.args.f (inr (contains_head c.args.f c.requires.0)) in
     omega (arith, f-in, q.queued_len, c.args.self.now.queued.ok)
 
-pub returns-then-index : goal.returns-then-index
-returns-then-index c due q =
+pub returns-then-index-clause-settled : goal.returns-then-index-clause-settled
+returns-then-index-clause-settled c due q =
     let needs = c.args.self.now.needs.now in
     let f = c.args.f in
     let f-in : f < length needs = c.requires.1.is.inside f (inr (contains_head f c.requires.0)) in
     let queued = c.args.self.now.queued.items in
     let is : is_marked queued f ≡ true = get_or_default queued f false c.index.result.now (omega (arith, f-in, q.is.queued_len)) ∙ sym c.index.ensures ∙ c.if-index.true in
-    record { heap = q.heap; is = settle_again _ _ _ _ _ _ _ due f is q.is }
+    record { heap = q.heap; nexts = q.nexts; is = settle_again _ _ _ _ _ _ _ due f is q.is }
 
 pub bounds-self-f : goal.bounds-self-f
 bounds-self-f c = c.requires.1.is.inside c.args.f (inr (contains_head c.args.f c.requires.0))
@@ -74,8 +74,8 @@ index_mut-requires-else-at-needs c =
     let f-in = q.inside c.args.f (inr (contains_head c.args.f c.requires.0)) in
     omega (arith, f-in, q.queued_len, c.args.self.now.queued.ok)
 
-pub returns-in_ok-push : goal.returns-in_ok-push
-returns-in_ok-push c due q =
+pub returns-in_ok-push-clause-settled : goal.returns-in_ok-push-clause-settled
+returns-in_ok-push-clause-settled c due q =
     let needs = c.args.self.now.needs.now in
     let f = c.args.f in
     let f-in : f < length needs = c.requires.1.is.inside f (inr (contains_head f c.requires.0)) in
@@ -103,13 +103,14 @@ returns-in_ok-push c due q =
     let settled = settle_waits _ _ waiting _ _ _ _ due f i f-in free i-in past stop q.is in
     record {
       heap = q.heap;
+      nexts = q.nexts;
       is =
           subst (λ (row : List ℕ). IsQueue needs (set c.args.self.now.at.items f i) (set waiting (get_or row i 0) c.push.new.self) c.args.self.now.queued.items listed ready c.args.self.now.order.items due) (sym row-is)
           (subst (λ (new : List ℕ). IsQueue needs (set c.args.self.now.at.items f i) (set waiting g new) c.args.self.now.queued.items listed ready c.args.self.now.order.items due) (sym grown) settled);
     }
 
-pub returns-in_ok-push-2 : goal.returns-in_ok-push-2
-returns-in_ok-push-2 c due q =
+pub returns-in_ok-push-2-clause-settled : goal.returns-in_ok-push-2-clause-settled
+returns-in_ok-push-2-clause-settled c due q =
     let needs = c.args.self.now.needs.now in
     let f = c.args.f in
     let f-in : f < length needs = c.requires.1.is.inside f (inr (contains_head f c.requires.0)) in
@@ -129,5 +130,6 @@ returns-in_ok-push-2 c due q =
     omega arith in
     record {
       heap = c.in_ok-push-2.ensures.heap_order q.heap;
+      nexts = q.nexts;
       is = settle_ready _ _ _ _ _ _ _ _ due f i f-in free end past (IsPermutation-map (λ r. r.0) _ _ c.in_ok-push-2.ensures.permutation) q.is;
     }

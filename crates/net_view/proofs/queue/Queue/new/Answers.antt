@@ -1,0 +1,1 @@
+use Rattle.net_view.proofs.queue.Queue.new.Goals as goal

@@ -1,0 +1,1 @@
+use Rattle.net_view.proofs.queue.least_first.Goals as goal

@@ -1,0 +1,1 @@
+use Rattle.net_view.proofs.queue.no_lists.Goals as goal
