@@ -13,7 +13,7 @@ use Rattle.net_view.specs.LeastFirst.{IsPathTo, IsLoop}
 use Rattle.net_view.specs.Queue.{needs_of, Needs, need_at, is_marked, IsStuck, IsCycle, Turns}
 use Rattle.net_view.proofs.Members.{contains_none, contains_head, contains_behind, contains_at, All-from_contains}
 use Rattle.net_view.proofs.QueueLemmas.{head_apart, tail_apart, apart_moved, same_or_not, not_both}
-use Rattle.net_view.proofs.ListingLemmas.{none_marked, range_has, range_length}
+use Rattle.net_view.proofs.ListingLemmas.{none_marked}
 
 -- the first of a list, or what comes behind it
 abbrev pub first_or : ℕ → List ℕ → ℕ
@@ -56,15 +56,6 @@ to_path needs e n (m ∷ rest) h = (h.0, to_path needs e m rest h.1)
 apart_back : (xs ys : List ℕ) → AllPairs (λ a b. a ≢ b) (xs ++ ys) → AllPairs (λ a b. a ≢ b) ys
 apart_back [] ys h = h
 apart_back (x ∷ xs) ys h = apart_back xs ys (tail_apart x (xs ++ ys) h)
-
--- numbers below n that differ are at most n
-pub apart_short : (xs : List ℕ) (n : ℕ) → All (λ x. x < n) xs → AllPairs (λ a b. a ≢ b) xs → length xs ≤ n
-apart_short xs n all apart =
-    let among = length-le_from_is_member nat_eq_equiv xs (range_with_len 0 n) (IsDistinct-from_AllPairs unsigned_Decides xs apart)
-    (λ q h.
-    let there = (is_member-Decides unsigned_Decides xs q).0 h in
-    (is_member-Decides unsigned_Decides (range_with_len 0 n) q).1 (range_has 0 n q (omega arith) (let low = All-contains (λ x. x < n) xs q all there in omega arith))) in
-    omega (arith, among, range_length 0 n)
 
 -- the items gone through, and the one that is reached
 pub record Path (needs : List (List ℕ)) (at : List ℕ) (listed seen : List Bool) (path : List ℕ) (f : ℕ) : Type 0 where

@@ -1,15 +1,15 @@
 -- Serves specs/Queue.antt: listing an item, the queue at its start and at its end.
-use Rattle.std.proofs.Common.{◌≡◌, ◌≢◌, ◌↔◌, ◌⊎◌, inl, inr, ℕ, zero, suc, ◌+◌, ◌-◌, ◌<◌, ◌≤◌, Bool, true, false, List, [], ◌∷◌, ◌++◌, length, get_or, set, take, drop, replicate, All, AllPairs, Contains, IsPermutation, eqb, sym, subst, ap, refl, ◌∙◌, arith, get_or-set_other, get_or-set_same, length-set}
+use Rattle.std.proofs.Common.{◌≡◌, ◌≢◌, ◌↔◌, ◌⊎◌, inl, inr, ℕ, zero, suc, ◌+◌, ◌-◌, ◌<◌, ◌≤◌, Bool, true, false, List, [], ◌∷◌, ◌++◌, length, get_or, set, take, drop, replicate, All, AllPairs, Contains, IsPermutation, eqb, sym, subst, ap, refl, ◌∙◌, arith, get_or-set_other, get_or-set_same, length-set, append_assoc}
 use Rattle.std.specs.Prelude.{slice_index, slice_index_or}
 use Rattle.std.specs.List.{range_with_len}
 use Rattle.std.proofs.lemmas.Bool.{cases_lt}
-use Rattle.std.proofs.lemmas.List.{get_or_append_left, get_or_push, length-append, take-append-le, take_all, get_or-replicate, get_or_past, length-replicate}
+use Rattle.std.proofs.lemmas.List.{get_or_append_left, get_or_push, length-append, take-append-le, take_all, get_or-replicate, get_or_past, get_or_at, get_or_default, get_or-take, length-replicate, length-take-le, append-nil}
 use Rattle.std.proofs.lemmas.List.Elements.{Contains-get_or, Contains-push, Contains-push_cases, Contains-append_left, All-contains}
 use Rattle.std.proofs.lemmas.List.Sorted.{IsPermutation-sym}
-use Rattle.net_view.specs.LeastFirst.{IsReady, IsNext}
-use Rattle.net_view.specs.Queue.{needs_of, Needs, need_at, is_marked, Waits, IsQueue, Nexts}
+use Rattle.net_view.specs.LeastFirst.{IsReady, IsNext, IsOrderAfter, IsLeastFirst}
+use Rattle.net_view.specs.Queue.{needs_of, Needs, need_at, is_marked, Waits, IsQueue, Nexts, IsListing, IsStuck}
 use Rattle.net_view.proofs.Members.{contains_none, contains_head, contains_behind, contains_cases, contains_at, adds_one, All-from_contains}
-use Rattle.net_view.proofs.QueueLemmas.{head_apart, tail_apart, same_or_not, apart_moved, not_both}
+use Rattle.net_view.proofs.QueueLemmas.{apart_short, range_has, range_below, unmarked, head_apart, tail_apart, same_or_not, apart_moved, not_both}
 
 -- the least ready item is listed
 pub list_least : (needs : List (List ℕ)) (at : List ℕ) (waiting : List (List ℕ)) (queued listed : List Bool) (ready rest order : List ℕ) (f : ℕ) → IsPermutation ready (f ∷ rest)
@@ -133,25 +133,6 @@ none_passed n f = elim (cases_lt f n) [
   | inr ge ↦ get_or_past (replicate n 0) f 0 (omega (arith, length-replicate {A = ℕ} n 0))
 ]
 
--- the numbers from one on
-pub range_length : (a n : ℕ) → length (range_with_len a n) ≡ n
-range_length a zero = refl
-range_length a (suc n) = ap suc (range_length (a + 1) n)
-
-pub range_has : (a n x : ℕ) → a ≤ x → x < a + n → Contains (range_with_len a n) x
-range_has a zero x low high = absurd (omega arith)
-range_has a (suc n) x low high = elim (cases_lt a x) [
-  | inl lt ↦ contains_behind a x (range_with_len (a + 1) n) (range_has (a + 1) n x (omega arith) (omega arith))
-  | inr ge ↦ let same : a ≡ x = omega arith in subst (λ (z : ℕ). Contains (range_with_len a (suc n)) z) same (contains_head a (range_with_len (a + 1) n))
-]
-
-range_below : (a n x : ℕ) → Contains (range_with_len a n) x → x < a + n
-range_below a zero x h = absurd (contains_none x h)
-range_below a (suc n) x h = elim (contains_cases a x (range_with_len (a + 1) n) h) [
-  | inl e ↦ omega arith
-  | inr rest ↦ let low = range_below (a + 1) n x rest in omega arith
-]
-
 -- all items are due at first
 pub queue_start : (needs waiting : List (List ℕ)) → ((f g : ℕ) → Needs needs f g → g < length needs) → length waiting ≡ length needs → All (λ l. l ≡ []) waiting
     → IsQueue needs (replicate (length needs) 0) waiting (replicate (length needs) false) (replicate (length needs) false) [] [] (range_with_len 0 (length needs))
@@ -179,3 +160,53 @@ queue_start needs waiting closed len empty =
       apart = λ f h k. absurd (contains_none f h);
       once = λ i j d lt within. absurd (omega arith);
     }
+
+-- no item is ready: what is listed is the whole order, if all are
+order_after : (needs : List (List ℕ)) (order : List ℕ) → Nexts needs order → ((n : ℕ) → n < length needs → Contains order n) → (front rest : List ℕ) → front ++ rest ≡ order
+    → IsOrderAfter (λ n. n < length needs) (Needs needs) ◌<◌ front rest
+order_after needs order nexts all front [] parts = λ n lt. subst (λ (xs : List ℕ). Contains xs n) (sym parts ∙ append-nil front) (all n lt)
+order_after needs order nexts all front (x ∷ rest) parts =
+    let Next : List ℕ → ℕ → Type 0 = IsNext (λ n. n < length needs) (Needs needs) ◌<◌ in
+    let lt : length front < length order = omega (arith, ap length parts, length-append front (x ∷ rest)) in
+    let before : take (length front) order ≡ front =
+    ap (take (length front)) (sym parts) ∙ take-append-le (length front) front (x ∷ rest) (omega arith) ∙ take_all (length front) front (omega arith) in
+    let here : slice_index order (length front) ≡ x = ap (λ (xs : List ℕ). slice_index xs (length front)) (sym parts) ∙ get_or_at front x rest 0 (length front) refl in (
+      subst (λ (xs : List ℕ). Next xs x) before (subst (λ (n : ℕ). Next (take (length front) order) n) here (nexts.each (length front) lt)),
+      order_after needs order nexts all (front ++ x ∷ []) rest (append_assoc front (x ∷ []) rest ∙ parts),
+    )
+
+pub queue_listed : (needs : List (List ℕ)) (at : List ℕ) (waiting : List (List ℕ)) (queued listed : List Bool) (ready order : List ℕ) → Nexts needs order → IsQueue needs at waiting queued listed ready order []
+    → ((f : ℕ) → f < length listed → is_marked listed f ≡ true) → IsListing needs order
+queue_listed needs at waiting queued listed ready order nexts q all =
+    order_after needs order nexts (λ n lt. (q.listed_is n).0 (all n (omega (arith, q.listed_len)))) [] order refl
+
+-- no item is ready: those that aren't listed wait for one another
+pub queue_stuck : (needs : List (List ℕ)) (at : List ℕ) (waiting : List (List ℕ)) (queued listed : List Bool) (ready order : List ℕ) → ready ≡ [] → IsQueue needs at waiting queued listed ready order []
+    → IsStuck needs at listed
+queue_stuck needs at waiting queued listed ready order none q = record {
+  at_len = q.at_len;
+  listed_len = q.listed_len;
+  closed = q.closed;
+  each = λ f lt free. elim (q.placed f lt) [
+    | inl old ↦ elim old [
+      | inl in-queue ↦ elim in-queue [
+        | inl r ↦ absurd (contains_none f (subst (λ (xs : List ℕ). Contains xs f) none r))
+        | inr o ↦ absurd (not_both (is_marked listed f) ((q.listed_is f).1 o) free)
+      ]
+      | inr d ↦ absurd (contains_none f d)
+    ]
+    | inr waits ↦ (waits.before_end, unmarked (is_marked listed (need_at needs at f)) (λ h. waits.unlisted ((q.listed_is (need_at needs at f)).0 h)))
+  ];
+}
+
+-- an item is listed only while there are items left
+pub listed_short : (needs : List (List ℕ)) (at : List ℕ) (waiting : List (List ℕ)) (queued listed : List Bool) (ready order due : List ℕ) → Nexts needs order → IsQueue needs at waiting queued listed ready order due
+    → length order ≤ length needs
+listed_short needs at waiting queued listed ready order due nexts q =
+    apart_short order (length needs) (All-from_contains (λ n. n < length needs) order (λ n h. q.inside n (inl (inr h))))
+    (λ i j d lt within e.
+    let next = nexts.each j within in
+    let e' : get_or order i 0 ≡ get_or order j 0 = get_or_default order i 0 d (omega arith) ∙ e ∙ get_or_default order j d 0 within in
+    let there : Contains (take j order) (get_or order i 0) =
+    subst (λ (n : ℕ). Contains (take j order) n) (get_or-take j order i 0 lt) (Contains-get_or (take j order) i 0 (omega (arith, length-take-le j order (omega arith)))) in
+    next.ready.unlisted (subst (λ (n : ℕ). Contains (take j order) n) e' there))

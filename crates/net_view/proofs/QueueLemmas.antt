@@ -1,14 +1,15 @@
 -- Serves specs/Queue.antt: what each step of a queue keeps.
-use Rattle.std.proofs.Common.{◌≡◌, ◌≢◌, ◌↔◌, ◌⊎◌, inl, inr, ℕ, suc, ◌+◌, ◌<◌, ◌≤◌, Bool, true, false, List, [], ◌∷◌, ◌++◌, length, get_or, set, All, AllPairs, Contains, IsPermutation, eqb, sym, subst, ap, refl, ◌∙◌, arith, get_or-set_other, get_or-set_same, length-set}
+use Rattle.std.proofs.Common.{◌≡◌, ◌≢◌, ◌↔◌, ◌⊎◌, inl, inr, ℕ, zero, suc, ◌+◌, ◌<◌, ◌≤◌, Bool, true, false, List, [], ◌∷◌, ◌++◌, length, get_or, set, All, AllPairs, Contains, IsPermutation, eqb, sym, subst, ap, refl, ◌∙◌, arith, get_or-set_other, get_or-set_same, length-set}
 use Rattle.std.specs.Prelude.{slice_index, slice_index_or}
+use Rattle.std.specs.List.{range_with_len}
 use Rattle.std.specs.Cmp.{unsigned_Decides, nat_eq_equiv}
 use Rattle.std.proofs.lemmas.Bool.{cases_lt}
 use Rattle.std.proofs.lemmas.List.{get_or_past}
-use Rattle.std.proofs.lemmas.List.Elements.{Contains-get_or, Contains-push, Contains-push_cases, Contains-append_left}
+use Rattle.std.proofs.lemmas.List.Elements.{All-contains, Contains-get_or, Contains-push, Contains-push_cases, Contains-append_left}
 use Rattle.std.proofs.lemmas.List.Kept.{AllPairs-cons}
 use Rattle.std.proofs.lemmas.List.Sorted.{IsPermutation-sym}
 use Rattle.std.proofs.lemmas.Map.Keys.{IsDistinct-IsPermutation}
-use Rattle.std.proofs.lemmas.Map.Made.{IsDistinct-from_AllPairs, AllPairs-from_IsDistinct}
+use Rattle.std.proofs.lemmas.Map.Made.{length-le_from_is_member, is_member-Decides, IsDistinct-from_AllPairs, AllPairs-from_IsDistinct}
 use Rattle.net_view.specs.Due.{Adds}
 use Rattle.net_view.specs.Queue.{needs_of, Needs, need_at, is_marked, Waits, IsQueue}
 use Rattle.net_view.proofs.Members.{contains_none, contains_head, contains_behind, contains_cases, contains_at, adds_one, All-from_contains}
@@ -36,6 +37,38 @@ tail_apart x xs apart i j d lt within e = apart (suc i) (suc j) d (omega arith) 
 
 pub not_both : (b : Bool) → b ≡ true → b ≡ false → ⊥
 not_both b h k = cc
+
+-- the numbers from one on
+pub range_length : (a n : ℕ) → length (range_with_len a n) ≡ n
+range_length a zero = refl
+range_length a (suc n) = ap suc (range_length (a + 1) n)
+
+pub range_has : (a n x : ℕ) → a ≤ x → x < a + n → Contains (range_with_len a n) x
+range_has a zero x low high = absurd (omega arith)
+range_has a (suc n) x low high = elim (cases_lt a x) [
+  | inl lt ↦ contains_behind a x (range_with_len (a + 1) n) (range_has (a + 1) n x (omega arith) (omega arith))
+  | inr ge ↦ let same : a ≡ x = omega arith in subst (λ (z : ℕ). Contains (range_with_len a (suc n)) z) same (contains_head a (range_with_len (a + 1) n))
+]
+
+pub range_below : (a n x : ℕ) → Contains (range_with_len a n) x → x < a + n
+range_below a zero x h = absurd (contains_none x h)
+range_below a (suc n) x h = elim (contains_cases a x (range_with_len (a + 1) n) h) [
+  | inl e ↦ omega arith
+  | inr rest ↦ let low = range_below (a + 1) n x rest in omega arith
+]
+
+-- numbers below n that differ are at most n
+pub apart_short : (xs : List ℕ) (n : ℕ) → All (λ x. x < n) xs → AllPairs (λ a b. a ≢ b) xs → length xs ≤ n
+apart_short xs n all apart =
+    let among = length-le_from_is_member nat_eq_equiv xs (range_with_len 0 n) (IsDistinct-from_AllPairs unsigned_Decides xs apart)
+    (λ q h.
+    let there = (is_member-Decides unsigned_Decides xs q).0 h in
+    (is_member-Decides unsigned_Decides (range_with_len 0 n) q).1 (range_has 0 n q (omega arith) (let low = All-contains (λ x. x < n) xs q all there in omega arith))) in
+    omega (arith, among, range_length 0 n)
+
+pub unmarked : (b : Bool) → (b ≡ true → ⊥) → b ≡ false
+unmarked true h = absurd (h refl)
+unmarked false h = refl
 
 -- an item that is queued needs no place
 pub settle_again : (needs : List (List ℕ)) (at : List ℕ) (waiting : List (List ℕ)) (queued listed : List Bool) (ready order due : List ℕ) (f : ℕ) → is_marked queued f ≡ true

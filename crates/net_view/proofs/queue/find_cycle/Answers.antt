@@ -2,7 +2,8 @@ use Rattle.std.proofs.Common.{◌≡◌, ◌<◌, ◌≤◌, ◌+◌, ℕ, Bool,
 use Rattle.std.proofs.lemmas.List.{get_or_default, length-append}
 use Rattle.std.proofs.lemmas.Result.{IfOk-weaker}
 use Rattle.net_view.specs.Queue.{needs_of, need_at, is_marked, IsCycle, Turns}
-use Rattle.net_view.proofs.CycleLemmas.{Path, path_start, path_more, cycle_end, apart_short}
+use Rattle.net_view.proofs.QueueLemmas.{apart_short}
+use Rattle.net_view.proofs.CycleLemmas.{path_more, cycle_end}
 use Rattle.net_view.proofs.queue.find_cycle.Goals as goal
 
 pub path-smaller : goal.path-smaller
