@@ -6,3 +6,4 @@ pub mod SliceLemmas
 pub mod QueueLemmas
 pub mod ListingLemmas
 pub mod CycleLemmas
+pub mod SmallNetLemmas

@@ -8,3 +8,4 @@ pub mod PinOrder
 pub mod Due
 pub mod Queue
 pub mod QueueOf
+pub mod SmallNet

@@ -2,8 +2,9 @@
 //!
 //! A `View` is a list of gates over sources (`specs/View.antt`); a `FlopNet` is a view whose sources have names and
 //! kinds, with named bits (`specs/FlopNet.antt`). `eval_into` gives each node the ternary value of its gate, and
-//! raising sources to X raises nodes (`specs/Values.antt`).
-//! The net: stands on `rdc_tern`. The event model and every analysis are generic over these traits.
+//! raising sources to X raises nodes (`specs/Values.antt`). `cone` gives the sources that a node's logic reads
+//! (`specs/Cone.antt`), and a `Slice` is the cones of some nodes as a view of their own (`specs/Slice.antt`).
+//! The net: stands on `rdc_tern` and, for lists, on `rdc_outside`. The event model and every analysis are generic over these traits.
 #![tactic(auto)]
 
 mod cones;
@@ -15,6 +16,8 @@ mod laws;
 mod queue;
 mod slice_ids;
 mod slices;
+#[cfg(test)]
+mod tests;
 mod view;
 
 pub use cones::cone;
