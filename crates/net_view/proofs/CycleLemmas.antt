@@ -1,17 +1,14 @@
 -- Serves specs/Queue.antt: a walk from item to item that aren't listed comes back, and so finds a cycle.
-use Rattle.std.proofs.Common.{◌≡◌, ◌≢◌, ◌↔◌, ◌⊎◌, inl, inr, ℕ, zero, suc, ◌+◌, ◌-◌, ◌<◌, ◌≤◌, Bool, true, false, List, [], ◌∷◌, ◌++◌, length, get_or, set, take, drop, replicate, All, AllPairs, Contains, IsPermutation, eqb, sym, subst, ap, refl, ◌∙◌, arith, get_or-set_other, get_or-set_same, length-set, drop-cons}
-use Rattle.std.specs.Prelude.{slice_index, slice_index_or}
-use Rattle.std.specs.Cmp.{unsigned_Decides, nat_eq_equiv}
-use Rattle.std.specs.List.{range_with_len}
+use Rattle.std.proofs.Common.{◌≡◌, ◌≢◌, ◌↔◌, inl, inr, ℕ, ◌<◌, Bool, true, false, List, [], ◌∷◌, ◌++◌, length, set, take, drop, replicate, All, AllPairs, Contains, sym, subst, ap, refl, ◌∙◌, arith, get_or-set_other, get_or-set_same, length-set, drop-cons}
+use Rattle.std.specs.Prelude.{slice_index}
 use Rattle.std.proofs.lemmas.Bool.{cases_lt}
-use Rattle.std.proofs.lemmas.List.{length-append, length-replicate, take-append-drop}
-use Rattle.std.proofs.lemmas.List.Elements.{All-push, All-contains, Contains-get_or, Contains-push, Contains-push_cases, Contains-append_left, Contains-append_right}
+use Rattle.std.proofs.lemmas.List.{length-replicate, take-append-drop}
+use Rattle.std.proofs.lemmas.List.Elements.{All-push, Contains-get_or, Contains-push, Contains-push_cases, Contains-append_left}
 use Rattle.std.proofs.lemmas.List.Quantifiers.{all_pairs_push}
 use Rattle.std.proofs.lemmas.List.Sorted.{IsPermutation-append_comm, IsPermutation-sym, Contains-permutation}
-use Rattle.std.proofs.lemmas.Map.Made.{length-le_from_is_member, is_member-Decides, IsDistinct-from_AllPairs}
-use Rattle.net_view.specs.LeastFirst.{IsPathTo, IsLoop}
+use Rattle.net_view.specs.LeastFirst.{IsPathTo}
 use Rattle.net_view.specs.Queue.{needs_of, Needs, need_at, is_marked, IsStuck, IsCycle, Turns}
-use Rattle.net_view.proofs.Members.{contains_none, contains_head, contains_behind, contains_at, All-from_contains}
+use Rattle.net_view.proofs.Members.{contains_none, contains_behind}
 use Rattle.net_view.proofs.QueueLemmas.{head_apart, tail_apart, apart_moved, same_or_not, not_both}
 use Rattle.net_view.proofs.ListingLemmas.{none_marked}
 

@@ -1,14 +1,14 @@
 -- Serves specs/Queue.antt: listing an item, the queue at its start and at its end.
-use Rattle.std.proofs.Common.{◌≡◌, ◌≢◌, ◌↔◌, ◌⊎◌, inl, inr, ℕ, zero, suc, ◌+◌, ◌-◌, ◌<◌, ◌≤◌, Bool, true, false, List, [], ◌∷◌, ◌++◌, length, get_or, set, take, drop, replicate, All, AllPairs, Contains, IsPermutation, eqb, sym, subst, ap, refl, ◌∙◌, arith, get_or-set_other, get_or-set_same, length-set, append_assoc}
+use Rattle.std.proofs.Common.{◌≡◌, ◌≢◌, ◌⊎◌, inl, inr, ℕ, ◌<◌, ◌≤◌, Bool, true, false, List, [], ◌∷◌, ◌++◌, length, get_or, set, take, replicate, All, Contains, IsPermutation, sym, subst, ap, refl, ◌∙◌, arith, get_or-set_other, get_or-set_same, length-set, append_assoc}
 use Rattle.std.specs.Prelude.{slice_index, slice_index_or}
 use Rattle.std.specs.List.{range_with_len}
 use Rattle.std.proofs.lemmas.Bool.{cases_lt}
 use Rattle.std.proofs.lemmas.List.{get_or_append_left, get_or_push, length-append, take-append-le, take_all, get_or-replicate, get_or_past, get_or_at, get_or_default, get_or-take, length-replicate, length-take-le, append-nil}
 use Rattle.std.proofs.lemmas.List.Elements.{Contains-get_or, Contains-push, Contains-push_cases, Contains-append_left, All-contains}
 use Rattle.std.proofs.lemmas.List.Sorted.{IsPermutation-sym}
-use Rattle.net_view.specs.LeastFirst.{IsReady, IsNext, IsOrderAfter, IsLeastFirst}
-use Rattle.net_view.specs.Queue.{needs_of, Needs, need_at, is_marked, Waits, IsQueue, Nexts, IsListing, IsStuck}
-use Rattle.net_view.proofs.Members.{contains_none, contains_head, contains_behind, contains_cases, contains_at, adds_one, All-from_contains}
+use Rattle.net_view.specs.LeastFirst.{IsNext, IsOrderAfter}
+use Rattle.net_view.specs.Queue.{needs_of, Needs, need_at, is_marked, IsQueue, Nexts, IsListing, IsStuck}
+use Rattle.net_view.proofs.Members.{contains_none, contains_at, adds_one, All-from_contains}
 use Rattle.net_view.proofs.QueueLemmas.{apart_short, range_has, range_below, unmarked, head_apart, tail_apart, same_or_not, apart_moved, not_both}
 
 -- the least ready item is listed

@@ -1,5 +1,5 @@
 -- Serves specs/Slice.antt: nodes with all that they read are a net, and keep their values.
-use Rattle.std.proofs.Common.{◌≡◌, ◌≢◌, ◌↔◌, ◌⊎◌, inl, inr, ℕ, ◌+◌, ◌<◌, ◌≤◌, ◌^◌, List, [], ◌∷◌, ◌++◌, length, map, get_or, slice_index, All, Contains, sym, subst, ap, refl, ◌∙◌, arith}
+use Rattle.std.proofs.Common.{◌≡◌, ◌⊎◌, inl, inr, ℕ, ◌+◌, ◌<◌, ◌^◌, List, [], ◌∷◌, ◌++◌, length, map, slice_index, All, Contains, sym, subst, ap, refl, ◌∙◌, arith}
 use Rattle.std.specs.List.Sorted.{IsStrictlyIncreasing}
 use Rattle.std.proofs.lemmas.Bool.{cases_lt}
 use Rattle.std.proofs.lemmas.List.{get_or-map, get_or_default, length-map, length-append, get_or_append_left, get_or_push}
@@ -9,7 +9,7 @@ use Rattle.rdc_tern.specs.declared.value.Tern.TheVariants.{Unsettled}
 use Rattle.net_view.specs.declared.gate.Gate.TheVariants.{Const, Source, Not, And, Or, Xor, Pick, Lift}
 use Rattle.net_view.specs.View.{Numbered, Reads, renumbered, IsGateAt, IsNet}
 use Rattle.net_view.specs.Values.{State, at, values, gate_value, IsValuation}
-use Rattle.net_view.specs.Cone.{InCone, InCones, ReadsSource, SomeReadsSource, Lists, itself, fan_in, IsFanIn}
+use Rattle.net_view.specs.Cone.{InCones, SomeReadsSource, Lists, itself, fan_in, IsFanIn}
 use Rattle.net_view.specs.Slice.{in_whole, cut_state, IsCut}
 use Rattle.net_view.specs.Due.{Adds, IsSourceAmong, HoldsReads, Cuts}
 use Rattle.net_view.proofs.ValuesLemmas.{some, some_is, reads_more, gate_value_same, values_valued, valuation_is}

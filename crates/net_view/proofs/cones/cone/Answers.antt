@@ -1,4 +1,4 @@
-use Rattle.std.proofs.Common.{◌≡◌, ◌<◌, ℕ, length, inl, inr, sym, subst, ap, ◌∙◌, map, List, [], heap_items, Vec, Global}
+use Rattle.std.proofs.Common.{◌≡◌, ◌<◌, ℕ, length, inl, inr, sym, subst, ap, ◌∙◌, map, List, [], heap_items}
 use Rattle.std.proofs.lemmas.Result.{IfOk-weaker}
 use Rattle.net_view.specs.Cone.{Lists, ReadsSource}
 use Rattle.net_view.specs.Due.{Adds, IsSourceAmong}

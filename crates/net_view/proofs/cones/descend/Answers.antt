@@ -1,6 +1,5 @@
-use Rattle.std.proofs.Common.{◌≡◌, ℕ, ◌<◌, List, [], length, arith, map, subst, heap_items}
+use Rattle.std.proofs.Common.{◌≡◌, ℕ, ◌<◌, List, [], length, arith, subst, heap_items}
 use Rattle.std.proofs.lemmas.List.{nil_from_length}
-use Rattle.std.proofs.lemmas.List.Elements.{All-map}
 use Rattle.std.proofs.lemmas.List.Sorted.{le_from_greatest}
 use Rattle.net_view.proofs.ValuesLemmas.{reads_more}
 use Rattle.net_view.proofs.Members.{adds_itself}

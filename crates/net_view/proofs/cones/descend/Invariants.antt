@@ -1,4 +1,4 @@
-use Rattle.std.proofs.Common.{map, ◌+◌, ◌*◌}
+use Rattle.std.proofs.Common.{◌+◌, ◌*◌}
 use Rattle.std.specs.Ordering.{nat_cmp}
 use Rattle.std.specs.BinaryHeap.{heap_items, heap_len, IsHeap}
 use Rattle.net_view.proofs.ConeLemmas.{Walk}

@@ -1,4 +1,4 @@
-use Rattle.std.proofs.Common.{◌<◌, length, get_or, arith, sym}
+use Rattle.std.proofs.Common.{◌<◌, length, arith}
 use Rattle.net_view.proofs.Members.{adds_more}
 use Rattle.net_view.proofs.cones.put_roots.Goals as goal
 

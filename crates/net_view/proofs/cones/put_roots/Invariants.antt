@@ -1,4 +1,4 @@
-use Rattle.std.proofs.Common.{List, [], ℕ, map, take, Contains}
+use Rattle.std.proofs.Common.{[], map, take, Contains}
 use Rattle.std.specs.Ordering.{nat_cmp}
 use Rattle.std.specs.BinaryHeap.{heap_items, IsHeap}
 use Rattle.net_view.specs.Due.{Adds}

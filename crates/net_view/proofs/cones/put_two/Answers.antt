@@ -1,6 +1,6 @@
-use Rattle.std.proofs.Common.{◌≡◌, ℕ}
+use Rattle.std.proofs.Common.{◌≡◌}
 use Rattle.std.proofs.lemmas.Result.{on_ok_weaker}
-use Rattle.net_view.specs.Due.{Adds, IsEither}
+use Rattle.net_view.specs.Due.{IsEither}
 use Rattle.net_view.proofs.Members.{adds_both}
 use Rattle.net_view.proofs.cones.put_two.Goals as goal
 

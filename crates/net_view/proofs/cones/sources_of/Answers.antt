@@ -1,10 +1,9 @@
-use Rattle.std.proofs.Common.{◌≡◌, ◌<◌, ◌+◌, ◌++◌, ◌∷◌, [], ℕ, List, length, take, get_or, map, All, arith, subst, sym, rules, ◌∙◌, Vec, Global}
+use Rattle.std.proofs.Common.{◌≡◌, ◌<◌, ◌+◌, ◌++◌, ◌∷◌, [], ℕ, List, length, take, get_or, map, All, subst, sym, rules, Vec, Global}
 use Rattle.std.proofs.lemmas.List.Sorted.{All-permutation}
 use Rattle.std.proofs.lemmas.List.{take_all}
 use Rattle.std.proofs.lemmas.List.Sorted.{IsNonDecreasingBy-from_sort_by_key}
-use Rattle.net_view.specs.declared.gate.Gate.{Gate}
 use Rattle.net_view.specs.declared.gate.Gate.TheVariants.{Source}
-use Rattle.net_view.specs.View.{Numbered, renumbered, IsGateAt}
+use Rattle.net_view.specs.View.{IsGateAt}
 use Rattle.net_view.proofs.SourceLemmas.{Found, found_source, found_other, pairs_sorted, still_none, pairs_push, keys_push}
 use Rattle.net_view.proofs.cones.sources_of.Goals as goal
 use Rattle.net_view.proofs.cones.sources_of.Goals.{in-Source+in_ok-push, in_default}

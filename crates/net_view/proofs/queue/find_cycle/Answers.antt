@@ -1,7 +1,7 @@
-use Rattle.std.proofs.Common.{◌≡◌, ◌<◌, ◌≤◌, ◌+◌, ℕ, Bool, true, false, List, [], ◌∷◌, ◌++◌, length, get_or, set, drop, sym, ap, subst, ◌∙◌, arith}
+use Rattle.std.proofs.Common.{◌≡◌, ◌<◌, ℕ, false, List, [], ◌∷◌, ◌++◌, length, get_or, drop, sym, ap, subst, ◌∙◌, arith}
 use Rattle.std.proofs.lemmas.List.{get_or_default, length-append}
 use Rattle.std.proofs.lemmas.Result.{IfOk-weaker}
-use Rattle.net_view.specs.Queue.{needs_of, need_at, is_marked, IsCycle, Turns}
+use Rattle.net_view.specs.Queue.{needs_of, is_marked, Turns}
 use Rattle.net_view.proofs.QueueLemmas.{apart_short}
 use Rattle.net_view.proofs.CycleLemmas.{path_more, cycle_end}
 use Rattle.net_view.proofs.queue.find_cycle.Goals as goal

@@ -1,4 +1,4 @@
-use Rattle.std.proofs.Common.{◌≡◌, ℕ, ◌<◌, length, arith}
+use Rattle.std.proofs.Common.{arith}
 use Rattle.net_view.proofs.Members.{contains_at}
 use Rattle.net_view.proofs.queue.first_place.Goals as goal
 

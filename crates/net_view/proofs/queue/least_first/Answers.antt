@@ -1,5 +1,5 @@
-use Rattle.std.proofs.Common.{◌≡◌, ◌<◌, ◌≤◌, ◌+◌, ◌-◌, ℕ, Bool, true, suc, List, [], ◌∷◌, length, get_or, drop, map, sym, ap, subst, ◌∙◌, refl, arith, heap_items, drop-cons, add-one}
-use Rattle.net_view.specs.Queue.{IsStuck, IsListing, is_marked}
+use Rattle.std.proofs.Common.{◌≡◌, ◌<◌, ◌+◌, ℕ, Bool, true, List, ◌∷◌, length, get_or, drop, map, ap, subst, ◌∙◌, arith, drop-cons, add-one}
+use Rattle.net_view.specs.Queue.{is_marked}
 use Rattle.net_view.specs.QueueOf.{QueueOf}
 use Rattle.net_view.proofs.ListingLemmas.{queue_listed, queue_stuck, listed_short}
 use Rattle.net_view.proofs.queue.least_first.Goals as goal

@@ -1,4 +1,4 @@
-use Rattle.std.proofs.Common.{◌≡◌, ◌-◌, length, List, [], drop}
+use Rattle.std.proofs.Common.{◌≡◌, ◌-◌, length, [], drop}
 use Rattle.net_view.specs.QueueOf.{QueueOf}
 use Rattle.net_view.proofs.queue.least_first.Given as goal
 

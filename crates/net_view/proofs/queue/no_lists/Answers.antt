@@ -1,1 +1,0 @@
-use Rattle.net_view.proofs.queue.no_lists.Goals as goal

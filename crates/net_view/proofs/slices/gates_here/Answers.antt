@@ -1,9 +1,7 @@
-use Rattle.std.proofs.Common.{◌≡◌, ℕ, ◌<◌, ◌+◌, ◌++◌, ◌∷◌, [], List, length, map, get_or, subst, sym, ◌∙◌, ap, arith}
+use Rattle.std.proofs.Common.{◌<◌, ◌∷◌, [], length, map, get_or, sym, ◌∙◌, ap, arith}
 use Rattle.std.proofs.lemmas.List.{map-append}
-use Rattle.std.proofs.lemmas.List.Elements.{Contains-get_or}
 use Rattle.net_view.specs.View.{Numbered, renumbered, IsGateAt}
 use Rattle.net_view.specs.Slice.{in_whole}
-use Rattle.net_view.specs.Due.{Cuts}
 use Rattle.net_view.proofs.ValuesLemmas.{some, reads_more}
 use Rattle.net_view.proofs.SliceLemmas.{cuts_more}
 use Rattle.net_view.proofs.slices.gates_here.Goals as goal

@@ -1,12 +1,12 @@
-use Rattle.std.proofs.Common.{◌≡◌, ◌<◌, ◌≤◌, ℕ, Bool, true, List, [], ◌∷◌, ◌++◌, length, map, set, All, inl, refl, arith, subst, sym, ap, ◌∙◌, heap_items}
+use Rattle.std.proofs.Common.{◌≡◌, ◌<◌, ◌≤◌, ℕ, List, [], ◌∷◌, ◌++◌, length, map, All, inl, arith, subst, sym, ap, ◌∙◌, heap_items}
 use Rattle.std.specs.Prelude.{slice_index_or}
 use Rattle.std.proofs.lemmas.List.{length-append, get_or_default}
 use Rattle.std.proofs.lemmas.List.Elements.{All-map, All-weaker, All-from_recursion}
 use Rattle.std.proofs.lemmas.List.Sorted.{Contains-permutation, IsPermutation-map, IsPermutation-sym}
 use Rattle.std.proofs.lemmas.Map.Keys.{ge_from_not_lt}
-use Rattle.net_view.specs.Queue.{IsQueue, Nexts}
+use Rattle.net_view.specs.Queue.{Nexts}
 use Rattle.net_view.proofs.Members.{contains_head}
-use Rattle.net_view.proofs.ListingLemmas.{list_least, next_least, nexts_more, queue_start}
+use Rattle.net_view.proofs.ListingLemmas.{list_least, next_least, nexts_more}
 use Rattle.net_view.proofs.queue.Queue.list_next.Goals as goal
 
 pub index_mut-requires : goal.index_mut-requires

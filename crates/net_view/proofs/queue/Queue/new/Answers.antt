@@ -1,4 +1,4 @@
-use Rattle.std.proofs.Common.{◌≡◌, ◌<◌, ◌≤◌, ◌+◌, ◌-◌, ℕ, suc, false, List, [], ◌∷◌, length, replicate, map, sym, ap, subst, ◌∙◌, refl, arith, heap_items}
+use Rattle.std.proofs.Common.{◌≡◌, ◌+◌, ◌-◌, ℕ, suc, false, length, replicate, subst, ◌∙◌, refl, arith}
 use Rattle.std.specs.List.{range_with_len}
 use Rattle.net_view.specs.QueueOf.{QueueOf}
 use Rattle.net_view.proofs.ListingLemmas.{queue_start, nexts_none}

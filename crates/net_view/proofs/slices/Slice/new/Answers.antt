@@ -1,10 +1,10 @@
-use Rattle.std.proofs.Common.{◌≡◌, ℕ, ◌<◌, ◌^◌, List, [], length, map, inl, inr, get_or, refl, sym, subst, ap, ◌∙◌, arith, All, Contains}
+use Rattle.std.proofs.Common.{◌≡◌, ℕ, ◌<◌, ◌^◌, List, length, map, inl, inr, get_or, refl, sym, subst, ap, ◌∙◌, arith, Contains}
 use Rattle.std.proofs.lemmas.List.{get_or-map, length-map}
 use Rattle.std.proofs.lemmas.List.Elements.{All-map, All-contains, Contains-get_or}
 use Rattle.net_view.specs.View.{Numbered, renumbered}
 use Rattle.net_view.specs.Slice.{HasGatesOf}
 use Rattle.net_view.specs.Cone.{Lists, SomeReadsSource}
-use Rattle.net_view.specs.Due.{Cuts, HoldsReads, IsSourceAmong}
+use Rattle.net_view.specs.Due.{Cuts, IsSourceAmong}
 use Rattle.net_view.proofs.Members.{contains_none, All-from_contains, rising_short}
 use Rattle.net_view.proofs.SourceLemmas.{sources_numbers}
 use Rattle.net_view.proofs.SliceLemmas.{cuts_values, cuts_net, cones_hold, cones_sources, sources_inside, roots_cones, root_there, slice_cut}
