@@ -7,3 +7,4 @@ pub mod QueueLemmas
 pub mod ListingLemmas
 pub mod CycleLemmas
 pub mod SmallNetLemmas
+pub mod OrderLemmas

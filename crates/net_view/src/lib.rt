@@ -25,7 +25,7 @@ pub use evaluation::eval_into;
 pub use fault::ConeFault;
 pub use flop_net::{FlopNet, FlopOf, SrcKind};
 pub use gate::Gate;
-pub use laws::{one_valuation, settled_in_settled_out};
+pub use laws::{one_pin_order, one_valuation, settled_in_settled_out};
 pub use slice_ids::{SliceNode, SliceSrc};
 pub use slices::Slice;
 pub use view::View;

@@ -151,3 +151,10 @@ fn a_slice_has_the_cones_alone_and_can_be_sliced(rt: HostRuntime) -> Result<(), 
     );
     Ok(())
 }
+
+#[test]
+fn the_laws_compute_nothing() {
+    one_valuation();
+    settled_in_settled_out();
+    one_pin_order();
+}
