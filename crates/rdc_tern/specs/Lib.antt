@@ -1,3 +1,5 @@
 pub mod Kleene
 pub mod Monotone
 pub mod Algebra
+pub mod Shifts
+pub mod Words

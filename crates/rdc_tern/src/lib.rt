@@ -5,10 +5,16 @@
 //! Ground: stands on nothing. The net and the event model compute with it.
 #![tactic(auto)]
 
+mod comparisons;
 mod laws;
+mod shifts;
+mod sums;
 mod value;
 
+pub use comparisons::{all, any, eq, lt, lt_signed, parity};
 pub use laws::{join_is_least, kleene_algebra, operations_are_monotone, selection_of_equals};
+pub use shifts::{sar, shl, shr};
+pub use sums::{WordFault, add, mul, neg, sub};
 pub use value::Tern;
 
 #[cfg(test)]

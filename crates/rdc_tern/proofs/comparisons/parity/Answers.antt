@@ -1,0 +1,8 @@
+use Rattle.rdc_tern.proofs.WordSteps.{parity_more, parity_whole}
+use Rattle.rdc_tern.proofs.comparisons.parity.Goals as goal
+
+pub loop-bit-preserved : goal.loop-bit-preserved
+loop-bit-preserved c = rw c.xor-odd.ensures (parity_more _ c.args.word.now c.loop-bit.bit-index _ _ c.loop-bit-test.true c.loop-bit.invariant)
+
+pub returns : goal.returns
+returns c = parity_whole _ c.args.word.now c.loop-bit.bit-index _ c.loop-bit-test.false c.loop-bit.invariant

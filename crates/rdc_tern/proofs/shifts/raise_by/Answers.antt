@@ -1,0 +1,12 @@
+use Rattle.rdc_tern.proofs.ShiftSteps.{raise_bit, shift_whole}
+use Rattle.rdc_tern.specs.declared.value.Tern.TheVariants.{Zero}
+use Rattle.rdc_tern.specs.Shifts.{raised}
+use Rattle.rdc_tern.proofs.shifts.raise_by.Goals as goal
+
+pub loop-bit-preserved : goal.loop-bit-preserved
+loop-bit-preserved c =
+    let step = raise_bit c.loop-bit.word c.raise.new.word c.args.amount.now c.loop-bit.bit-index c.loop-bit.distance c.doubled-distance.result _ _ c.loop-bit-test.true c.raise.ensures c.loop-bit.invariant.distance c.doubled-distance.ensures c.loop-bit.invariant.left in
+    record { left = step.1; distance = step.2 }
+
+pub returns : goal.returns
+returns c = shift_whole (raised Zero) c.loop-bit.bit-index c.loop-bit.word c.args.amount.now _ c.loop-bit-test.false c.loop-bit.invariant.left
