@@ -1,2 +1,4 @@
 pub mod WordSteps
 pub mod ShiftSteps
+pub mod KeptLemmas
+pub mod MonotoneLemmas

@@ -3,3 +3,5 @@ pub mod Monotone
 pub mod Algebra
 pub mod Shifts
 pub mod Words
+pub mod Numbers
+pub mod WordLaws

@@ -10,12 +10,14 @@ mod laws;
 mod shifts;
 mod sums;
 mod value;
+mod word_laws;
 
 pub use comparisons::{all, any, eq, lt, lt_signed, parity};
 pub use laws::{join_is_least, kleene_algebra, operations_are_monotone, selection_of_equals};
 pub use shifts::{sar, shl, shr};
 pub use sums::{WordFault, add, mul, neg, sub};
 pub use value::Tern;
+pub use word_laws::{word_operations_are_monotone, word_operations_settle};
 
 #[cfg(test)]
 mod tests;
