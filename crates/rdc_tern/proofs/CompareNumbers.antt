@@ -1,29 +1,23 @@
 -- Serves specs/WordLaws.antt: comparisons and reductions of settled words are those of numbers.
-use Rattle.std.proofs.Common.{◌≡◌, ◌↔◌, ℕ, zero, suc, ◌+◌, ◌-◌, ◌*◌, ◌%◌, ◌^◌, ◌<◌, List, [], ◌∷◌, length, get_or, refl, sym, ap, ◌∙◌, subst, arith, rules}
+use Rattle.std.proofs.Common.{◌≡◌, ◌↔◌, ℕ, suc, ◌+◌, ◌-◌, ◌*◌, ◌%◌, ◌^◌, ◌<◌, List, [], ◌∷◌, length, get_or, refl, sym, ap, ◌∙◌, arith}
 use Rattle.std.specs.Prelude.{pos, ◌-ℤ◌, ◌<ℤ◌}
 use Rattle.std.proofs.lemmas.Int.{ints}
-use Rattle.std.specs.List.{All}
 use Rattle.std.proofs.lemmas.List.Elements.{All-nil, All-cons, All-head, All-tail}
 use Rattle.rdc_tern.specs.declared.value.Tern.{Tern}
 use Rattle.rdc_tern.specs.declared.value.Tern.TheVariants.{Zero, One, Unsettled}
-use Rattle.rdc_tern.specs.Kleene.{not_of, and_of, or_of, xor_of, IsSettled}
+use Rattle.rdc_tern.specs.Kleene.{not_of, xor_of, IsSettled}
 use Rattle.rdc_tern.specs.Shifts.{top_of}
 use Rattle.rdc_tern.specs.Words.{any_of, all_of, parity_of, eq_of, lt_bit, lt_from, lt_of, top_inverted, lt_signed_of}
 use Rattle.rdc_tern.specs.Numbers.{AreSettled, bit_of, number, ones, signed}
-use Rattle.rdc_tern.proofs.SumNumbers.{double, number-below}
+use Rattle.rdc_tern.proofs.SumNumbers.{double}
 use Rattle.rdc_tern.proofs.MonotoneLemmas.{words_settle}
-
-zero_settled : IsSettled Zero
-zero_settled = λ e. cc
+use Rattle.rdc_tern.proofs.GateLemmas.{zero_settled, not_settled, lt_bit_settled}
 
 -- a bit says that its number is 1
 bit_says : (a : Tern) → (a ≡ One) ↔ (0 < 0 + bit_of a)
 bit_says Zero = (λ e. cc, λ lt. absurd (omega arith))
 bit_says One = (λ e. omega arith, λ lt. refl)
 bit_says Unsettled = (λ e. cc, λ lt. absurd (omega arith))
-
-lt_bit_settled : (s a b : Tern) → IsSettled s → IsSettled a → IsSettled b → IsSettled (lt_bit s a b)
-lt_bit_settled s a b hs ha hb = search rules
 
 -- one bit decides, or leaves it to those above
 lt_step : (s a b : Tern) (x y : ℕ) → IsSettled s → IsSettled a → IsSettled b → (x < y + bit_of (lt_bit s a b)) ↔ (bit_of a + 2 * x < bit_of b + 2 * y + bit_of s)
@@ -124,9 +118,6 @@ length-top_inverted : (w : List Tern) → length (top_inverted w) ≡ length w
 length-top_inverted [] = refl
 length-top_inverted (a ∷ []) = refl
 length-top_inverted (a ∷ b ∷ w) = ap (λ (n : ℕ). suc n) (length-top_inverted (b ∷ w))
-
-not_settled : (a : Tern) → IsSettled a → IsSettled (not_of a)
-not_settled a h = search rules
 
 top_inverted_settled : (w : List Tern) → AreSettled w → AreSettled (top_inverted w)
 top_inverted_settled [] h = h

@@ -1,3 +1,4 @@
+pub mod GateLemmas
 pub mod WordSteps
 pub mod ShiftSteps
 pub mod KeptLemmas

@@ -1,27 +1,13 @@
 -- Serves specs/WordLaws.antt: the order is kept, and so is being settled.
-use Rattle.std.proofs.Common.{◌≡◌, ℕ, List, [], ◌∷◌, refl, sym, ap, ◌∙◌, subst, inl, inr, arith, rules}
-use Rattle.std.specs.List.{All, AllZip}
+use Rattle.std.proofs.Common.{◌≡◌, List, [], ◌∷◌, refl, ap, inl}
+use Rattle.std.specs.List.{AllZip}
 use Rattle.std.proofs.lemmas.List.Elements.{All-nil, All-cons, All-head, All-tail}
 use Rattle.rdc_tern.specs.declared.value.Tern.{Tern}
-use Rattle.rdc_tern.specs.declared.value.Tern.TheVariants.{Zero, One, Unsettled}
-use Rattle.rdc_tern.specs.Kleene.{not_of, and_of, or_of, xor_of, IsBelow, IsSettled}
-use Rattle.rdc_tern.specs.Numbers.{AreSettled, AreBelow}
+use Rattle.rdc_tern.specs.Kleene.{not_of, IsBelow, IsSettled}
+use Rattle.rdc_tern.specs.Numbers.{AreSettled}
 use Rattle.rdc_tern.specs.WordLaws.{RaisesWords, SettlesWords}
-use Rattle.rdc_tern.specs.Words.{add_of, sub_of, neg_of, mul_of, any_of, all_of, parity_of, eq_of, lt_of, lt_signed_of}
-use Rattle.rdc_tern.specs.Shifts.{shl_of, shr_of, sar_of}
 use Rattle.rdc_tern.proofs.KeptLemmas.{IsKept, add_kept, sub_kept, neg_kept, mul_kept, shl_kept, shr_kept, sar_kept, any_kept, all_kept, parity_kept, eq_kept, lt_kept, lt_signed_kept}
-
-not_below : (a b : Tern) → IsBelow a b → IsBelow (not_of a) (not_of b)
-not_below a b h = search rules
-
-and_below : (a b c d : Tern) → IsBelow a b → IsBelow c d → IsBelow (and_of a c) (and_of b d)
-and_below a b c d h k = search rules
-
-or_below : (a b c d : Tern) → IsBelow a b → IsBelow c d → IsBelow (or_of a c) (or_of b d)
-or_below a b c d h k = search rules
-
-xor_below : (a b c d : Tern) → IsBelow a b → IsBelow c d → IsBelow (xor_of a c) (xor_of b d)
-xor_below a b c d h k = search rules
+use Rattle.rdc_tern.proofs.GateLemmas.{not_below, and_below, or_below, xor_below, zero_settled, one_settled, not_settled, and_settled, or_settled, xor_settled}
 
 below_kept : IsKept IsBelow
 below_kept = record {
@@ -53,24 +39,6 @@ words_raise = record {
 -- one value, and no X
 abbrev Same : Tern → Tern → Type 0
 Same a b = (b ≡ a) × IsSettled a
-
-not_settled : (a : Tern) → IsSettled a → IsSettled (not_of a)
-not_settled a h = search rules
-
-and_settled : (a b : Tern) → IsSettled a → IsSettled b → IsSettled (and_of a b)
-and_settled a b h k = search rules
-
-or_settled : (a b : Tern) → IsSettled a → IsSettled b → IsSettled (or_of a b)
-or_settled a b h k = search rules
-
-xor_settled : (a b : Tern) → IsSettled a → IsSettled b → IsSettled (xor_of a b)
-xor_settled a b h k = search rules
-
-zero_settled : IsSettled Zero
-zero_settled = λ e. cc
-
-one_settled : IsSettled One
-one_settled = λ e. cc
 
 same_kept : IsKept Same
 same_kept = record {

@@ -1,27 +1,18 @@
 -- Serves specs/WordLaws.antt: products of settled words, and that a number is one word's.
-use Rattle.std.proofs.Common.{◌≡◌, ℕ, zero, suc, ◌+◌, ◌*◌, ◌%◌, ◌^◌, ◌<◌, List, [], ◌∷◌, ◌++◌, length, take, map, replicate, refl, sym, ap, ◌∙◌, subst, arith, rules}
+use Rattle.std.proofs.Common.{◌≡◌, ℕ, ◌+◌, ◌*◌, ◌%◌, ◌^◌, ◌<◌, List, [], ◌∷◌, ◌++◌, length, replicate, refl, sym, ap, ◌∙◌, subst, arith}
 use Rattle.std.proofs.lemmas.Nat.{pow-add}
-use Rattle.std.proofs.lemmas.List.{length-replicate, length-map}
-use Rattle.std.specs.List.{All}
-use Rattle.std.proofs.lemmas.List.Elements.{All-nil, All-cons, All-head, All-tail, All-replicate, All-append, All-take}
+use Rattle.std.proofs.lemmas.List.{length-replicate}
+use Rattle.std.proofs.lemmas.List.Elements.{All-head, All-tail, All-replicate, All-append, All-take}
 use Rattle.rdc_tern.specs.declared.value.Tern.{Tern}
 use Rattle.rdc_tern.specs.declared.value.Tern.TheVariants.{Zero, One, Unsettled}
-use Rattle.rdc_tern.specs.Kleene.{and_of, IsSettled}
+use Rattle.rdc_tern.specs.Kleene.{IsSettled}
 use Rattle.rdc_tern.specs.Shifts.{raised}
 use Rattle.rdc_tern.specs.Words.{masked, zeros, carry_out, add_of, products_of, mul_of}
 use Rattle.rdc_tern.specs.Numbers.{AreSettled, bit_of, number}
 use Rattle.rdc_tern.proofs.MonotoneLemmas.{words_settle}
 use Rattle.rdc_tern.proofs.SumNumbers.{number-below, remainder_is, whole_sum, length-sum_of, number_zeros, number_raised, lost}
 use Rattle.rdc_tern.proofs.WordSteps.{length-masked}
-
-zero_settled : IsSettled Zero
-zero_settled = λ e. cc
-
-and_one : (a : Tern) → and_of a One ≡ a
-and_one a = search rules
-
-and_zero : (a : Tern) → and_of a Zero ≡ Zero
-and_zero a = search rules
+use Rattle.rdc_tern.proofs.GateLemmas.{and_one, and_zero, zero_settled}
 
 masked_one : (w : List Tern) → masked One w ≡ w
 masked_one [] = refl
@@ -56,9 +47,11 @@ whole_product s a i (Zero ∷ b) hs ha hb same =
     let row-settled : AreSettled row = subst AreSettled (sym row-is) (All-replicate IsSettled (length (raised Zero i a)) Zero zero_settled) in
     let sum : number (add_of s row) + 2 ^ length a * bit_of (carry_out Zero s row) ≡ number s =
     subst (λ (n : ℕ). number (add_of s row) + 2 ^ n * bit_of (carry_out Zero s row) ≡ number s) same (whole_sum Zero s row zero_settled hs row-settled as_wide ∙ omega arith) in
-    let rest = whole_product (add_of s row) a (i + 1) b (words_settle.sum s row hs row-settled) ha (All-tail IsSettled Zero b hb) (length-sum_of Zero s row as_wide ∙ same) in
-    (rest.0 + bit_of (carry_out Zero s row), without_row (number (products_of (add_of s row) a (i + 1) b)) (2 ^ length a) rest.0 (bit_of (carry_out Zero s row)) (number s) (number (add_of s row)) (number a) (2 ^ i) (number b) sum
-    (rw (twice i) at rest.1))
+    let rest = whole_product (add_of s row) a (i + 1) b (words_settle.sum s row hs row-settled) ha (All-tail IsSettled Zero b hb) (length-sum_of Zero s row as_wide ∙ same) in (
+      rest.0 + bit_of (carry_out Zero s row),
+      without_row (number (products_of (add_of s row) a (i + 1) b)) (2 ^ length a) rest.0 (bit_of (carry_out Zero s row)) (number s) (number (add_of s row)) (number a) (2 ^ i) (number b) sum
+          (rw (twice i) at rest.1),
+    )
 whole_product s a i (One ∷ b) hs ha hb same =
     let row = masked One (raised Zero i a) in
     let as_wide : length s ≡ length row = same ∙ sym (length-masked One a i) in
@@ -67,9 +60,11 @@ whole_product s a i (One ∷ b) hs ha hb same =
     let row-number : number row + 2 ^ length a * lost i a ≡ number a * 2 ^ i = subst (λ (t : List Tern). number t + 2 ^ length a * lost i a ≡ number a * 2 ^ i) (sym row-is) (number_raised i a) in
     let sum : number (add_of s row) + 2 ^ length a * bit_of (carry_out Zero s row) ≡ number s + number row =
     subst (λ (n : ℕ). number (add_of s row) + 2 ^ n * bit_of (carry_out Zero s row) ≡ number s + number row) same (whole_sum Zero s row zero_settled hs row-settled as_wide ∙ omega arith) in
-    let rest = whole_product (add_of s row) a (i + 1) b (words_settle.sum s row hs row-settled) ha (All-tail IsSettled One b hb) (length-sum_of Zero s row as_wide ∙ same) in
-    (rest.0 + bit_of (carry_out Zero s row) + lost i a, with_row (number (products_of (add_of s row) a (i + 1) b)) (2 ^ length a) rest.0 (bit_of (carry_out Zero s row)) (lost i a) (number s) (number (add_of s row)) (number row) (number a) (2 ^ i) (number b) sum row-number
-    (rw (twice i) at rest.1))
+    let rest = whole_product (add_of s row) a (i + 1) b (words_settle.sum s row hs row-settled) ha (All-tail IsSettled One b hb) (length-sum_of Zero s row as_wide ∙ same) in (
+      rest.0 + bit_of (carry_out Zero s row) + lost i a,
+      with_row (number (products_of (add_of s row) a (i + 1) b)) (2 ^ length a) rest.0 (bit_of (carry_out Zero s row)) (lost i a) (number s) (number (add_of s row)) (number row) (number a) (2 ^ i) (number b) sum row-number
+          (rw (twice i) at rest.1),
+    )
 
 pub length-products_of : (s a : List Tern) (i : ℕ) (b : List Tern) → length s ≡ length a → length (products_of s a i b) ≡ length a
 length-products_of s a i [] same = same

@@ -1,32 +1,26 @@
 -- Serves specs/WordLaws.antt: a settled amount moves a word by its number, and moved words are products and quotients.
-use Rattle.std.proofs.Common.{◌≡◌, ◌⊎◌, ℕ, zero, suc, ◌+◌, ◌-◌, ◌*◌, ◌/◌, ◌%◌, ◌^◌, ◌<◌, ◌≤◌, List, [], ◌∷◌, ◌++◌, length, take, drop, get_or, map, replicate, refl, sym, ap, ◌∙◌, subst, inl, inr, append_assoc, arith, rules}
+use Rattle.std.proofs.Common.{◌≡◌, ℕ, zero, suc, ◌+◌, ◌-◌, ◌*◌, ◌/◌, ◌%◌, ◌^◌, ◌<◌, ◌≤◌, List, [], ◌∷◌, ◌++◌, length, take, drop, get_or, replicate, refl, sym, ap, ◌∙◌, subst, inl, inr, append_assoc, arith}
 use Rattle.std.specs.Prelude.{pos, negsuc, ◌-ℤ◌}
 use Rattle.std.proofs.lemmas.Int.{ints}
 use Rattle.std.proofs.lemmas.Bool.{cases_lt}
 use Rattle.std.proofs.lemmas.Nat.{pow-add, div-mul-add}
 use Rattle.std.proofs.lemmas.List.{take_all, take-take, replicate-append-replicate, get_or_past, length-map, get_or_default}
-use Rattle.std.specs.List.{All}
 use Rattle.std.proofs.lemmas.List.Elements.{All-cons, All-head, All-tail}
 use Rattle.rdc_tern.specs.declared.value.Tern.{Tern}
 use Rattle.rdc_tern.specs.declared.value.Tern.TheVariants.{Zero, One, Unsettled}
-use Rattle.rdc_tern.specs.Kleene.{not_of, mux_of, IsSettled}
+use Rattle.rdc_tern.specs.Kleene.{not_of, IsSettled}
 use Rattle.rdc_tern.specs.Shifts.{raised, lowered, select_of, shift_of, top_of, shl_of, shr_of, sar_of}
 use Rattle.rdc_tern.specs.Words.{inverted}
 use Rattle.rdc_tern.specs.Numbers.{AreSettled, bit_of, number, signed, quotient_down}
 use Rattle.rdc_tern.proofs.ShiftSteps.{length-raised, length-lowered, length-select_of}
-use Rattle.rdc_tern.proofs.SumNumbers.{double, number-below, remainder_is, number_parts, number_raised, lost, number_inverted, inverted_settled}
+use Rattle.rdc_tern.proofs.SumNumbers.{double, bit-below, number-below, remainder_is, number_parts, number_raised, lost, number_inverted, inverted_settled}
+use Rattle.rdc_tern.proofs.GateLemmas.{not_not, mux_one, mux_zero, zero_settled}
 
 -- moves add up, and keep the width
 record IsMove (moved : ℕ → List Tern → List Tern) : Type 0 where
   pub none : (w : List Tern) → moved 0 w ≡ w
   pub again : (n m : ℕ) (w : List Tern) → moved n (moved m w) ≡ moved (m + n) w
   pub wide : (n : ℕ) (w : List Tern) → length (moved n w) ≡ length w
-
-mux_one : (a b : Tern) → mux_of One a b ≡ a
-mux_one a b = search rules
-
-mux_zero : (a b : Tern) → mux_of Zero a b ≡ b
-mux_zero a b = search rules
 
 select_one : (x y : List Tern) → length x ≡ length y → select_of One x y ≡ x
 select_one [] y same = refl
@@ -141,11 +135,6 @@ number_lowered zero [] = refl
 number_lowered (suc n) [] = refl
 number_lowered n (a ∷ w) = ap (λ (k : ℕ). bit_of (get_or (a ∷ w) n Zero) + 2 * k) (number_lowered n w) ∙ sym (number_read n (a ∷ w))
 
-bit-below : (a : Tern) → bit_of a < 2
-bit-below Zero = omega arith
-bit-below One = omega arith
-bit-below Unsettled = omega arith
-
 number_front : (n : ℕ) (w : List Tern) → number (take n w) < 2 ^ n
 number_front zero w = omega arith
 number_front (suc n) [] = rw (double n) (omega (arith, number_front n []))
@@ -160,9 +149,6 @@ number_down n w =
 pub shr_number : (w amount : List Tern) → AreSettled w → AreSettled amount → number (shr_of w amount) ≡ number w / 2 ^ number amount
 shr_number w amount hw ha = ap number (shr_moves w amount ha) ∙ number_down (number amount) w
 
-not_not : (a : Tern) → not_of (not_of a) ≡ a
-not_not a = search rules
-
 inverted_read : (n : ℕ) (w : List Tern) → not_of (get_or (inverted w) n Zero) ≡ get_or w n One
 inverted_read n [] = refl
 inverted_read zero (a ∷ w) = not_not a
@@ -172,9 +158,6 @@ inverted_read (suc n) (a ∷ w) = inverted_read n w
 inverted_lowered : (n : ℕ) (w : List Tern) → inverted (lowered Zero n (inverted w)) ≡ lowered One n w
 inverted_lowered n [] = refl
 inverted_lowered n (a ∷ w) = ap (λ (b : Tern). b ∷ inverted (lowered Zero n (inverted w))) (inverted_read n (a ∷ w)) ∙ ap (λ (t : List Tern). get_or (a ∷ w) n One ∷ t) (inverted_lowered n w)
-
-zero_settled : IsSettled Zero
-zero_settled = λ e. cc
 
 get_settled : (n : ℕ) (w : List Tern) → AreSettled w → IsSettled (get_or w n Zero)
 get_settled n [] h = zero_settled

@@ -1,12 +1,12 @@
 -- Serves specs/Shifts.antt: one more place of a word that moves, and one more bit of an amount.
-use Rattle.std.proofs.Common.{◌≡◌, ℕ, zero, suc, ◌+◌, ◌-◌, ◌*◌, ◌^◌, ◌<◌, ◌≤◌, min, List, [], ◌∷◌, ◌++◌, length, take, drop, get_or, set, replicate, refl, sym, ap, ◌∙◌, subst, inl, inr, append_assoc, arith, rules, add-one}
+use Rattle.std.proofs.Common.{◌≡◌, ℕ, suc, ◌+◌, ◌-◌, ◌^◌, ◌<◌, ◌≤◌, min, List, [], ◌∷◌, ◌++◌, length, take, drop, get_or, set, replicate, refl, sym, ap, ◌∙◌, inl, inr, append_assoc, arith}
 use Rattle.std.proofs.lemmas.Nat.{pow-add}
 use Rattle.std.proofs.lemmas.Bool.{cases_lt}
-use Rattle.std.proofs.lemmas.List.{drop_more, take_more_set, drop-set-lt, drop_all, take_all, append-nil, length-take-le, get_or-drop, length-append, length-replicate, take_more, take-append-le, take-set, drop-set, get_or_append_left, get_or-append_right, get_or-replicate, get_or_past, get_or-take, length-take, length-set, get_or_default, take-replicate}
+use Rattle.std.proofs.lemmas.List.{drop_more, take_more_set, drop-set-lt, drop_all, take_all, append-nil, length-take-le, get_or-drop, length-append, length-replicate, take_more, take-append-le, take-set, drop-set, get_or_append_left, get_or-append_right, get_or_past, get_or-take, length-take, take-replicate}
 use Rattle.rdc_tern.specs.declared.value.Tern.{Tern}
-use Rattle.rdc_tern.specs.declared.value.Tern.TheVariants.{Zero, One, Unsettled}
+use Rattle.rdc_tern.specs.declared.value.Tern.TheVariants.{Zero}
 use Rattle.rdc_tern.specs.Kleene.{mux_of}
-use Rattle.rdc_tern.specs.Shifts.{raised, lowered, select_of, shift_of, top_of}
+use Rattle.rdc_tern.specs.Shifts.{raised, lowered, select_of, shift_of}
 
 lower_more : (bit fill : Tern) (n : ℕ) (w : List Tern) (i : ℕ) (e : Tern) → i < length w
     → select_of bit (lowered fill n (drop i w)) (drop i w) ≡ mux_of bit (get_or w (i + n) fill) (get_or w i e) ∷ select_of bit (lowered fill n (drop (i + 1) w)) (drop (i + 1) w)

@@ -1,23 +1,21 @@
 -- Serves specs/WordLaws.antt: sums, differences and products of settled words are those of numbers.
-use Rattle.std.proofs.Common.{◌≡◌, ◌≢◌, ◌⊎◌, ℕ, zero, suc, ◌+◌, ◌-◌, ◌*◌, ◌/◌, ◌%◌, ◌^◌, ◌<◌, ◌≤◌, List, [], ◌∷◌, ◌++◌, length, take, drop, get_or, map, replicate, refl, sym, ap, ◌∙◌, subst, inl, inr, arith, rules}
+use Rattle.std.proofs.Common.{◌≡◌, ℕ, zero, suc, ◌+◌, ◌-◌, ◌*◌, ◌%◌, ◌^◌, ◌<◌, List, [], ◌∷◌, ◌++◌, length, take, drop, replicate, refl, sym, ap, ◌∙◌, subst, arith}
 use Rattle.std.proofs.Math.Nat.{pow-succ'}
-use Rattle.std.proofs.lemmas.Nat.{pow-add, mod-mul-add}
-use Rattle.std.proofs.lemmas.List.{length-replicate, length-map, length-take-le}
-use Rattle.std.specs.List.{All}
-use Rattle.std.proofs.lemmas.List.Elements.{All-nil, All-cons, All-head, All-tail, All-replicate, All-map}
+use Rattle.std.proofs.lemmas.Nat.{mod-mul-add}
+use Rattle.std.proofs.lemmas.List.{length-replicate, length-map}
+use Rattle.std.proofs.lemmas.List.Elements.{All-nil, All-cons, All-head, All-tail, All-replicate}
 use Rattle.rdc_tern.specs.declared.value.Tern.{Tern}
 use Rattle.rdc_tern.specs.declared.value.Tern.TheVariants.{Zero, One, Unsettled}
-use Rattle.rdc_tern.specs.Kleene.{not_of, and_of, or_of, xor_of, IsSettled}
+use Rattle.rdc_tern.specs.Kleene.{not_of, IsSettled}
 use Rattle.rdc_tern.specs.Shifts.{raised}
-use Rattle.rdc_tern.specs.Words.{masked, inverted, zeros, sum_bit, carry_of, sum_of, carry_out, add_of, sub_of, neg_of, products_of, mul_of}
+use Rattle.rdc_tern.specs.Words.{inverted, zeros, sum_bit, carry_of, sum_of, carry_out, add_of, sub_of, neg_of}
 use Rattle.rdc_tern.specs.Numbers.{AreSettled, bit_of, number}
-use Rattle.rdc_tern.proofs.ShiftSteps.{length-raised}
-use Rattle.rdc_tern.proofs.MonotoneLemmas.{words_settle}
+use Rattle.rdc_tern.proofs.GateLemmas.{zero_settled, one_settled, not_settled, carry_settled}
 
 pub double : (n : ℕ) → 2 ^ suc n ≡ 2 * 2 ^ n
 double n = pow-succ' 2 n
 
-bit-below : (a : Tern) → bit_of a < 2
+pub bit-below : (a : Tern) → bit_of a < 2
 bit-below Zero = omega arith
 bit-below One = omega arith
 bit-below Unsettled = omega arith
@@ -49,9 +47,6 @@ full_adder One One Unsettled hc ha hb = absurd (hb refl)
 full_adder One One Zero hc ha hb = refl
 full_adder One One One hc ha hb = refl
 
-carry_settled : (c a b : Tern) → IsSettled c → IsSettled a → IsSettled b → IsSettled (carry_of c a b)
-carry_settled c a b hc ha hb = search rules
-
 sum_step : (s p out x y k a b c d : ℕ) → s + p * out ≡ x + y + k → d + 2 * k ≡ a + b + c → (d + 2 * s) + (2 * p) * out ≡ (a + 2 * x) + (b + 2 * y) + c
 sum_step s p out x y k a b c d rest bit = omega arith
 
@@ -72,12 +67,6 @@ length-sum_of c [] y same = refl
 length-sum_of c (a ∷ x) [] same = absurd (omega arith)
 length-sum_of c (a ∷ x) (b ∷ y) same = ap (λ (n : ℕ). suc n) (length-sum_of (carry_of c a b) x y (omega arith))
 
-zero_settled : IsSettled Zero
-zero_settled = λ e. cc
-
-one_settled : IsSettled One
-one_settled = λ e. cc
-
 pub add_whole : (a b : List Tern) → AreSettled a → AreSettled b → length a ≡ length b → number (add_of a b) + 2 ^ length a * bit_of (carry_out Zero a b) ≡ number a + number b
 add_whole a b ha hb same = whole_sum Zero a b zero_settled ha hb same ∙ omega arith
 
@@ -95,9 +84,6 @@ inverted_bit Unsettled h = absurd (h refl)
 pub number_inverted : (w : List Tern) → AreSettled w → number (inverted w) + number w + 1 ≡ 2 ^ length w
 number_inverted [] h = omega arith
 number_inverted (a ∷ w) h = rw (double (length w)) (omega (arith, number_inverted w (All-tail IsSettled a w h), inverted_bit a (All-head IsSettled a w h)))
-
-not_settled : (a : Tern) → IsSettled a → IsSettled (not_of a)
-not_settled a h = search rules
 
 pub inverted_settled : (w : List Tern) → AreSettled w → AreSettled (inverted w)
 inverted_settled [] h = All-nil IsSettled

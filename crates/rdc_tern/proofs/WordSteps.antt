@@ -1,13 +1,14 @@
 -- Serves specs/Words.antt: one more bit of a sum, of a comparison or of a reduction.
-use Rattle.std.proofs.Common.{◌≡◌, ℕ, zero, suc, ◌+◌, ◌-◌, ◌<◌, ◌≤◌, List, [], ◌∷◌, ◌++◌, length, take, drop, get_or, set, map, replicate, inl, inr, refl, sym, ap, ◌∙◌, append_assoc, arith, rules, add-one}
-use Rattle.std.proofs.lemmas.List.{drop_more, take_more_set, drop-set-lt, drop_all, take_all, append-nil, length-take-le, get_or-take, get_or-append_right, get_or_append_left, get_or-replicate, get_or_default, get_or-map, get_or_past, length-map, length-replicate, map-id}
+use Rattle.std.proofs.Common.{◌≡◌, ℕ, zero, suc, ◌+◌, ◌-◌, ◌<◌, ◌≤◌, List, [], ◌∷◌, ◌++◌, length, take, drop, get_or, set, map, replicate, inl, inr, refl, sym, ap, ◌∙◌, append_assoc, arith, add-one}
+use Rattle.std.proofs.lemmas.List.{drop_more, take_more_set, drop-set-lt, drop_all, take_all, append-nil, get_or-take, get_or-append_right, get_or_append_left, get_or-replicate, get_or_default, get_or-map, get_or_past, length-map, length-replicate, map-id}
 use Rattle.std.proofs.lemmas.Bool.{cases_lt}
 use Rattle.rdc_tern.specs.declared.value.Tern.{Tern}
-use Rattle.rdc_tern.specs.declared.value.Tern.TheVariants.{Zero, One, Unsettled}
+use Rattle.rdc_tern.specs.declared.value.Tern.TheVariants.{Zero}
 use Rattle.rdc_tern.specs.Kleene.{not_of, and_of, or_of, xor_of}
 use Rattle.rdc_tern.specs.Shifts.{raised}
 use Rattle.rdc_tern.proofs.ShiftSteps.{length-raised}
 use Rattle.rdc_tern.specs.Words.{masked, add_of, products_of, sum_bit, carry_of, sum_of, any_of, all_of, parity_of, eq_of, lt_bit, lt_from, lt_of, top_inverted, lt_signed_of}
+use Rattle.rdc_tern.proofs.GateLemmas.{or_assoc, and_assoc, xor_assoc, or_zero, and_one, xor_zero, plus_zero, carry_zero}
 
 sum_more : (c : Tern) (x y : List Tern) (i : ℕ) (d e : Tern) → i < length x → i < length y
     → sum_of c (drop i x) (drop i y) ≡ sum_bit c (get_or x i d) (get_or y i e) ∷ sum_of (carry_of c (get_or x i d) (get_or y i e)) (drop (i + 1) x) (drop (i + 1) y)
@@ -29,24 +30,6 @@ sum_whole c s y i whole p before =
     let front : take i s ≡ s = take_all i s p in
     let rest : drop i s ≡ [] = drop_all i s p in
     sym (append-nil s) ∙ (rw (front, rest) at before)
-
-pub or_assoc : (a b c : Tern) → or_of (or_of a b) c ≡ or_of a (or_of b c)
-or_assoc a b c = search rules
-
-pub and_assoc : (a b c : Tern) → and_of (and_of a b) c ≡ and_of a (and_of b c)
-and_assoc a b c = search rules
-
-pub xor_assoc : (a b c : Tern) → xor_of (xor_of a b) c ≡ xor_of a (xor_of b c)
-xor_assoc a b c = search rules
-
-or_zero : (a : Tern) → or_of a Zero ≡ a
-or_zero a = search rules
-
-and_one : (a : Tern) → and_of a One ≡ a
-and_one a = search rules
-
-xor_zero : (a : Tern) → xor_of a Zero ≡ a
-xor_zero a = search rules
 
 pub any_more : (so_far : Tern) (w : List Tern) (i : ℕ) (d whole : Tern) → i < length w → or_of so_far (any_of (drop i w)) ≡ whole → or_of (or_of so_far (get_or w i d)) (any_of (drop (i + 1) w)) ≡ whole
 any_more so_far w i d whole p before = or_assoc so_far (get_or w i d) _ ∙ (rw (drop_more w i d p) at before)
@@ -103,12 +86,6 @@ pub lt_signed_is : (x y : List Tern) (n : ℕ) (d e less v : Tern) → 0 < lengt
 lt_signed_is x y n d e less v some same n-is less-is v-is =
     v-is ∙ ap (λ (l : Tern). lt_bit l (not_of (get_or x n d)) (not_of (get_or y n e))) less-is ∙ lt_top Zero x y n d e (omega arith) (omega arith)
 
-plus_zero : (a : Tern) → sum_bit Zero a Zero ≡ a
-plus_zero a = search rules
-
-carry_zero : (a : Tern) → carry_of Zero a Zero ≡ Zero
-carry_zero a = search rules
-
 -- zeros at the bottom change nothing
 pub sum_above : (s r : List Tern) (p : ℕ) → length s ≡ length r → ((k : ℕ) → k < p → get_or r k Zero ≡ Zero) → take p s ++ sum_of Zero (drop p s) (drop p r) ≡ sum_of Zero s r
 sum_above s r zero same low = refl
@@ -127,9 +104,6 @@ masked_read bit w p k d e from lt =
     let read : get_or (raised Zero p w) k Zero ≡ get_or w (k - p) d =
     get_or-take (length w) (replicate p Zero ++ w) k Zero lt ∙ get_or-append_right (replicate p Zero) w p k Zero (length-replicate p Zero) from ∙ get_or_default w (k - p) Zero d (omega arith) in
     ap (λ (a : Tern). and_of a bit) (sym read) ∙ sym (get_or-map (λ (a : Tern). and_of a bit) (raised Zero p w) k Zero e (omega arith))
-
-zero_and : (bit : Tern) → and_of Zero bit ≡ Zero
-zero_and bit = refl
 
 -- below the places that it is moved up by it is 0
 pub masked_low : (bit : Tern) (w : List Tern) (p k : ℕ) → k < p → get_or (masked bit (raised Zero p w)) k Zero ≡ Zero
@@ -154,6 +128,6 @@ products_more s a i b d whole lt before = rw (drop_more b i d lt) at before
 pub products_whole : (s a : List Tern) (i : ℕ) (b whole : List Tern) → length b ≤ i → products_of s a i (drop i b) ≡ whole → s ≡ whole
 products_whole s a i b whole past before = rw (drop_all i b past) at before
 
--- the first operand of a sum
+-- an exclusive or with 0 changes no bit
 pub xor_zero_each : (w : List Tern) → map (xor_of Zero) w ≡ w
 xor_zero_each w = map-id w

@@ -3,9 +3,9 @@
 --   select_of, shift_of       a choice between two words, and a shift by the bits of an amount
 --   top_of                    the sign
 --   shl_of, shr_of, sar_of    the shifts
-use Rattle.std.specs.Prelude.{ℕ, zero, suc, ◌+◌, ◌-◌, ◌^◌, List, [], ◌∷◌, ◌++◌, length, take, replicate, slice_index_or}
+use Rattle.std.specs.Prelude.{ℕ, ◌+◌, ◌-◌, ◌^◌, List, [], ◌∷◌, ◌++◌, length, take, replicate, slice_index_or}
 use Rattle.rdc_tern.specs.declared.value.Tern.{Tern}
-use Rattle.rdc_tern.specs.declared.value.Tern.TheVariants.{Zero, One, Unsettled}
+use Rattle.rdc_tern.specs.declared.value.Tern.TheVariants.{Zero, Unsettled}
 use Rattle.rdc_tern.specs.Kleene.{mux_of}
 
 -- the word moved up by n places: below come n fills, and what passes the top is lost

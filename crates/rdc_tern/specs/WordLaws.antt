@@ -3,7 +3,7 @@
 --   RaisesWords                words that tell less give words and bits that tell no more
 --   SettlesWords               settled words give settled words and bits
 --   AreNumbers, ComparesNumbers, MovesWords, ShiftsNumbers   what settled words give, as numbers
-use Rattle.std.specs.Prelude.{◌≡◌, ◌↔◌, ℕ, ◌+◌, ◌-◌, ◌*◌, ◌/◌, ◌%◌, ◌^◌, ◌<◌, ◌<ℤ◌, List, length}
+use Rattle.std.specs.Prelude.{◌≡◌, ◌↔◌, ◌+◌, ◌-◌, ◌*◌, ◌/◌, ◌%◌, ◌^◌, ◌<◌, ◌<ℤ◌, List, length}
 use Rattle.rdc_tern.specs.declared.value.Tern.{Tern}
 use Rattle.rdc_tern.specs.declared.value.Tern.TheVariants.{Zero, One}
 use Rattle.rdc_tern.specs.Kleene.{IsBelow, IsSettled}

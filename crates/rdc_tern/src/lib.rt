@@ -17,7 +17,13 @@ pub use laws::{join_is_least, kleene_algebra, operations_are_monotone, selection
 pub use shifts::{sar, shl, shr};
 pub use sums::{WordFault, add, mul, neg, sub};
 pub use value::Tern;
-pub use word_laws::{word_operations_are_monotone, word_operations_settle};
+pub use word_laws::{
+    shifts_are_numbers, shifts_move_words, word_operations_are_monotone,
+    word_operations_keep_width, word_operations_settle, words_are_numbers,
+    words_compare_as_numbers,
+};
 
 #[cfg(test)]
 mod tests;
+#[cfg(test)]
+mod word_tests;

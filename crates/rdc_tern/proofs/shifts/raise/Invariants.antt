@@ -1,4 +1,4 @@
-use Rattle.std.proofs.Common.{◌≡◌, ◌-◌, ◌++◌, take, drop, length}
+use Rattle.std.proofs.Common.{◌≡◌, ◌-◌, ◌++◌, take, drop}
 use Rattle.rdc_tern.specs.declared.value.Tern.TheVariants.{Zero}
 use Rattle.rdc_tern.specs.Shifts.{select_of, raised}
 use Rattle.rdc_tern.proofs.shifts.raise.Given as goal

@@ -1,6 +1,5 @@
 use Rattle.std.proofs.Common.{◌≡◌, arith}
 use Rattle.std.proofs.lemmas.Grind.{common_steps}
-use Rattle.rdc_tern.specs.declared.value.Tern.TheVariants.{Zero}
 use Rattle.rdc_tern.specs.Words.{add_of}
 use Rattle.rdc_tern.proofs.WordSteps.{xor_zero_each}
 use Rattle.rdc_tern.proofs.sums.add.Goals as goal

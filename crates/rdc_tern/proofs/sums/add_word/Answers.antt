@@ -1,6 +1,5 @@
 use Rattle.std.proofs.Common.{◌≡◌, arith, length, map, ◌∙◌, sym, ap}
 use Rattle.std.proofs.lemmas.List.{length-map, get_or-map}
-use Rattle.rdc_tern.specs.declared.value.Tern.{Tern}
 use Rattle.rdc_tern.specs.declared.value.Tern.TheVariants.{Zero}
 use Rattle.rdc_tern.specs.Kleene.{xor_of}
 use Rattle.rdc_tern.specs.Words.{sum_bit, carry_of}

@@ -1,5 +1,3 @@
-use Rattle.std.proofs.Common.{◌∙◌, arith}
-use Rattle.rdc_tern.specs.declared.value.Tern.TheVariants.{Zero}
 use Rattle.rdc_tern.proofs.SumNumbers.{number-below, add_whole, number_sum, number_difference, number_negation}
 use Rattle.rdc_tern.proofs.ProductNumbers.{number_product, word_is}
 use Rattle.rdc_tern.proofs.word_laws.words_are_numbers.Goals as goal
