@@ -1,7 +1,9 @@
-//! Ternary values: 0, 1, and X for a signal that has not settled.
+//! Ternary values: 0, 1, and X for a signal that has not settled; and words of them, least significant bit first.
 //!
 //! Each gate is Kleene's table (`specs/Kleene.antt`), and an input raised to X leaves the output as it was or raises
-//! it to X (`specs/Monotone.antt`); the algebra that optimisers may use is in `specs/Algebra.antt`.
+//! it to X (`specs/Monotone.antt`); the algebra that optimisers may use is in `specs/Algebra.antt`. Each operation on
+//! words is its gates (`specs/Words.antt`, `specs/Shifts.antt`), keeps the same order, and on settled words is that
+//! of numbers modulo 2^width (`specs/WordLaws.antt`).
 //! Ground: stands on nothing. The net and the event model compute with it.
 #![tactic(auto)]
 
