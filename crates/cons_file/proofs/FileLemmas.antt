@@ -1,8 +1,8 @@
 -- A file is read from its first row to its last.
-use Rattle.std.proofs.Common.{◌≡◌, ◌≢◌, ℕ, suc, ◌+◌, ◌<◌, ◌≤◌, true, false, List, [], ◌∷◌, ◌++◌, refl, sym, ap, subst, ◌∙◌, inl, inr, arith, append_assoc, append-nil}
+use Rattle.std.proofs.Common.{◌≡◌, ℕ, suc, ◌+◌, ◌≤◌, List, [], ◌∷◌, ◌++◌, refl, sym, ap, subst, ◌∙◌, inl, inr, arith, append_assoc, append-nil}
 use Rattle.std.specs.List.{list_all}
 use Rattle.std.proofs.lemmas.Bool.{cases_Bool}
-use Rattle.cons_file.specs.Lines.{Row, is_blank, words_in, without_comment, with_row, rows_from, rows_of, lines_of}
+use Rattle.cons_file.specs.Lines.{Row, is_blank, words_in, without_comment, rows_from, rows_of, lines_of}
 use Rattle.cons_file.specs.Forms.{Form, Spells}
 use Rattle.cons_file.specs.File.{Stated, heading, Spell, AfterVersion, LacksVersion, IsFirstBad, IsFile, IsAscending}
 use Rattle.cons_file.proofs.FormsLemmas.{one_form}

@@ -1,5 +1,5 @@
 -- A form is read from exactly the words that spell it.
-use Rattle.std.proofs.Common.{◌≡◌, ◌≢◌, ℕ, Bool, true, false, Option, Some, None, List, [], ◌∷◌, take, refl, sym, ap, subst, ◌∙◌, inl, inr}
+use Rattle.std.proofs.Common.{◌≡◌, ◌≢◌, ℕ, Bool, true, false, Option, Some, None, List, [], ◌∷◌, take, refl, sym, ap, ◌∙◌, inl, inr}
 use Rattle.std.specs.Prelude.{codes, if◌then◌else◌}
 use Rattle.std.specs.Str.{bytes_eq}
 use Rattle.std.proofs.lemmas.Bool.{cases_Bool}
@@ -175,39 +175,39 @@ behind_sound verb ws rest read e =
     elim (cases_Bool (bytes_eq verb (codes "clock"))) [
       | inl same ↦ let is = rw same at e in rw (is_word verb _ same) (named_form (codes "clock") Clock ws rest read (λ name. refl) is)
       | inr n1 ↦ let e1 = rw n1 at e in
-        elim (cases_Bool (bytes_eq verb (codes "reset"))) [
-          | inl same ↦ let is = rw same at e1 in rw (is_word verb _ same) (reset_sound ws rest read is)
-          | inr n2 ↦ let e2 = rw n2 at e1 in
-            elim (cases_Bool (bytes_eq verb (codes "tie"))) [
-              | inl same ↦ let is = rw same at e2 in rw (is_word verb _ same) (tie_sound ws rest read is)
-              | inr n3 ↦ let e3 = rw n3 at e2 in
-                elim (cases_Bool (bytes_eq verb (codes "steady"))) [
-                  | inl same ↦ let is = rw same at e3 in rw (is_word verb _ same) (named_form (codes "steady") Steady ws rest read (λ name. refl) is)
-                  | inr n4 ↦ let e4 = rw n4 at e3 in
-                    elim (cases_Bool (bytes_eq verb (codes "track"))) [
-                      | inl same ↦ let is = rw same at e4 in rw (is_word verb _ same) (named_form (codes "track") Track ws rest read (λ name. refl) is)
-                      | inr n5 ↦ let e5 = rw n5 at e4 in
-                        elim (cases_Bool (bytes_eq verb (codes "order"))) [
-                          | inl same ↦ let is = rw same at e5 in rw (is_word verb _ same) (order_sound ws rest read is)
-                          | inr n6 ↦ let e6 = rw n6 at e5 in
-                            elim (cases_Bool (bytes_eq verb (codes "isolate"))) [
-                              | inl same ↦ let is = rw same at e6 in rw (is_word verb _ same) (isolate_sound ws rest read is)
-                              | inr n7 ↦ let e7 = rw n7 at e6 in
-                                elim (cases_Bool (bytes_eq verb (codes "quiet"))) [
-                                  | inl same ↦ let is = rw same at e7 in rw (is_word verb _ same) (quiet_sound ws rest read is)
-                                  | inr n8 ↦ let e8 = rw n8 at e7 in
-                                    elim (cases_Bool (bytes_eq verb (codes "waive"))) [
-                                      | inl same ↦ let is = rw same at e8 in rw (is_word verb _ same) (waive_sound ws rest read is)
-                                      | inr n9 ↦ let e9 = rw n9 at e8 in
-                                        absurd (nothing read e9)
-                                    ]
-                                ]
+          elim (cases_Bool (bytes_eq verb (codes "reset"))) [
+            | inl same ↦ let is = rw same at e1 in rw (is_word verb _ same) (reset_sound ws rest read is)
+            | inr n2 ↦ let e2 = rw n2 at e1 in
+                elim (cases_Bool (bytes_eq verb (codes "tie"))) [
+                  | inl same ↦ let is = rw same at e2 in rw (is_word verb _ same) (tie_sound ws rest read is)
+                  | inr n3 ↦ let e3 = rw n3 at e2 in
+                      elim (cases_Bool (bytes_eq verb (codes "steady"))) [
+                        | inl same ↦ let is = rw same at e3 in rw (is_word verb _ same) (named_form (codes "steady") Steady ws rest read (λ name. refl) is)
+                        | inr n4 ↦ let e4 = rw n4 at e3 in
+                            elim (cases_Bool (bytes_eq verb (codes "track"))) [
+                              | inl same ↦ let is = rw same at e4 in rw (is_word verb _ same) (named_form (codes "track") Track ws rest read (λ name. refl) is)
+                              | inr n5 ↦ let e5 = rw n5 at e4 in
+                                  elim (cases_Bool (bytes_eq verb (codes "order"))) [
+                                    | inl same ↦ let is = rw same at e5 in rw (is_word verb _ same) (order_sound ws rest read is)
+                                    | inr n6 ↦ let e6 = rw n6 at e5 in
+                                        elim (cases_Bool (bytes_eq verb (codes "isolate"))) [
+                                          | inl same ↦ let is = rw same at e6 in rw (is_word verb _ same) (isolate_sound ws rest read is)
+                                          | inr n7 ↦ let e7 = rw n7 at e6 in
+                                              elim (cases_Bool (bytes_eq verb (codes "quiet"))) [
+                                                | inl same ↦ let is = rw same at e7 in rw (is_word verb _ same) (quiet_sound ws rest read is)
+                                                | inr n8 ↦ let e8 = rw n8 at e7 in
+                                                    elim (cases_Bool (bytes_eq verb (codes "waive"))) [
+                                                      | inl same ↦ let is = rw same at e8 in rw (is_word verb _ same) (waive_sound ws rest read is)
+                                                      | inr n9 ↦ let e9 = rw n9 at e8 in
+                                                          absurd (nothing read e9)
+                                                    ]
+                                              ]
+                                        ]
+                                  ]
                             ]
-                        ]
-                    ]
+                      ]
                 ]
-            ]
-        ]
+          ]
     ]
 
 -- what is read as a form spells it

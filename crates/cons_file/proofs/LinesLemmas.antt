@@ -1,12 +1,12 @@
 -- Taking a line or a word from the front leaves the other lines, or the other words.
-use Rattle.std.proofs.Common.{◌≡◌, ℕ, suc, ◌+◌, ◌-◌, ◌<◌, ◌≤◌, Bool, true, false, not, ltb, eqb, ◌&&◌, Option, List, [], ◌∷◌, map, length, get_or, take, drop, refl, sym, ap, ◌∙◌, inl, inr, arith}
+use Rattle.std.proofs.Common.{◌≡◌, ℕ, suc, ◌+◌, ◌-◌, ◌<◌, ◌≤◌, Bool, true, false, not, ltb, eqb, ◌&&◌, Option, List, [], ◌∷◌, length, get_or, take, drop, refl, sym, ap, ◌∙◌, inl, inr, arith}
 use Rattle.std.specs.Prelude.{filter, position, unwrap_or}
 use Rattle.std.specs.List.{slice_split, position_or_len}
 use Rattle.std.proofs.lemmas.Bool.{cases_Bool, eqb-true, eq-eqb, ne_eqb, ltb-false, and_cases, and_parts, and_left, and_right}
 use Rattle.std.proofs.lemmas.List.{length-drop, drop-drop, take_all, nil_from_length}
 use Rattle.std.proofs.lemmas.List.Sums.{prefix_len-le-length}
 use Rattle.cons_file.specs.Lines.{is_line_feed, is_at_line_feed, is_blank, has_items, lines_of, without_comment, words_in, with_row, rows_from}
-use Rattle.cons_file.specs.Forms.{skip_blanks, after_word}
+use Rattle.cons_file.specs.Forms.{skip_blanks}
 use Rattle.cons_file.specs.Front.{with_front, without_return}
 
 -- the first place that passes, or the length

@@ -4,7 +4,7 @@
 --     skip_blanks, cut_blanks, after_word, reason_in   what stands behind words
 --     IsForm words reason form  the line of these words and this reason has the form
 --     Spells text form          a line spells a form
-use Rattle.std.specs.Prelude.{◌≡◌, ◌≢◌, ℕ, Bool, true, false, not, if◌then◌else◌, List, [], ◌∷◌, codes, take, drop}
+use Rattle.std.specs.Prelude.{◌≡◌, ◌≢◌, ℕ, Bool, not, if◌then◌else◌, List, [], ◌∷◌, codes, take, drop}
 use Rattle.std.specs.List.{position_or_len, list_all}
 use Rattle.std.specs.Str.{IsAscii}
 use Rattle.cons_file.specs.Lines.{is_blank, words_in}

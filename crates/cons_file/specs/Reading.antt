@@ -94,16 +94,16 @@ named_in form ws = do
 -- what stands behind the first word decides the form
 unfoldable pub behind : List ℕ → List (List ℕ) → List ℕ → Option Form
 behind verb ws reason =
-  if bytes_eq verb (codes "clock") then named_in Clock ws
-  else if bytes_eq verb (codes "reset") then reset_in ws
-  else if bytes_eq verb (codes "tie") then tie_in ws
-  else if bytes_eq verb (codes "steady") then named_in Steady ws
-  else if bytes_eq verb (codes "track") then named_in Track ws
-  else if bytes_eq verb (codes "order") then order_in ws
-  else if bytes_eq verb (codes "isolate") then isolate_in ws
-  else if bytes_eq verb (codes "quiet") then quiet_in ws
-  else if bytes_eq verb (codes "waive") then waive_in ws reason
-  else None
+    if bytes_eq verb (codes "clock") then named_in Clock ws
+    else if bytes_eq verb (codes "reset") then reset_in ws
+    else if bytes_eq verb (codes "tie") then tie_in ws
+    else if bytes_eq verb (codes "steady") then named_in Steady ws
+    else if bytes_eq verb (codes "track") then named_in Track ws
+    else if bytes_eq verb (codes "order") then order_in ws
+    else if bytes_eq verb (codes "isolate") then isolate_in ws
+    else if bytes_eq verb (codes "quiet") then quiet_in ws
+    else if bytes_eq verb (codes "waive") then waive_in ws reason
+    else None
 
 -- the form of a line
 unfoldable pub form_in : List (List ℕ) → List ℕ → Option Form

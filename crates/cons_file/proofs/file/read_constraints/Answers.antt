@@ -1,5 +1,5 @@
 -- A row that was read stands behind those before it, and their numbers ascend.
-use Rattle.std.proofs.Common.{◌≡◌, ◌∷◌, [], map, sym, arith}
+use Rattle.std.proofs.Common.{map, arith}
 use Rattle.std.proofs.lemmas.List.{map-append}
 use Rattle.cons_file.specs.Lines.{lines_of, rows_from, rows_of}
 use Rattle.cons_file.specs.Front.{row_read}

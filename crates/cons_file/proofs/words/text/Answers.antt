@@ -1,5 +1,4 @@
 -- ASCII is UTF-8.
-use Rattle.std.proofs.Common.{◌≡◌}
 use Rattle.std.proofs.lemmas.Str.{IsUtf8-from_ascii}
 use Rattle.cons_file.proofs.words.text.Goals as goal
 
