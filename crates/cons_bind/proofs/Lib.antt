@@ -1,0 +1,6 @@
+-- The lemmas.
+pub mod NamesLemmas
+pub mod MarksLemmas
+pub mod LinesLemmas
+pub mod AscendingLemmas
+pub mod ClaimsLemmas
