@@ -4,3 +4,5 @@ pub mod MarksLemmas
 pub mod LinesLemmas
 pub mod AscendingLemmas
 pub mod ClaimsLemmas
+pub mod ReadsLemmas
+pub mod MeaningLemmas

@@ -42,5 +42,5 @@ line_skips D lines line marks none before =
     before
 
 -- what is read past the end of a list of lines
-pub no_line : Line
+abbrev pub no_line : Line
 no_line = record { number = 0; form = Clock (record { ref_ptr = (0, 0); now = [] }) }

@@ -1,8 +1,8 @@
 -- The lines of a file in a net: all bound, or the first that has a fault.
 --     forms_of bound                          the forms of bound lines
---     IsBoundLine net lines before line it    the line is free of faults, and bound
+--     Stands net lines before form it         the line is bound, and free of faults
 --     AreBound net lines before some bound    each line is
---     LineFails net lines before line cause   the line has the fault
+--     LineFails net lines before form cause   the line has the fault
 --     StopsAt net lines cause n               line n is the first that has a fault
 --     Binds net lines answer                  what each answer means
 use Rattle.std.specs.Prelude.{◌≡◌, ℕ, List, [], ◌∷◌, ◌++◌, map, Result, Ok, Err}
@@ -23,20 +23,20 @@ use Rattle.cons_bind.specs.declared.fault.BindFault.TheVariants.{Memory, NoName,
 abbrev pub forms_of : List BoundLine → List BoundForm
 forms_of bound = map (λ (line : BoundLine). line.form) bound
 
--- the line is bound, and may stand behind those before it; `lines` are all lines of the file
-pub record IsBoundLine (net : Net) (lines : List Stated) (before : List BoundLine) (line : Stated) (it : BoundLine) : Type 0 where
-  pub number : it.number ≡ line.number
-  pub bound : IsBound net lines line.form it.form
-  pub unread : ReadsClock net it.form → ⊥
-  pub once : IsTwice (forms_of before) it.form → ⊥
-  pub few : IsPastLimit (forms_of before) it.form → ⊥
+-- the line is bound to this form, and may stand behind those before it; `lines` are all lines of the file
+pub record Stands (net : Net) (lines : List Stated) (before : List BoundLine) (form : Form) (it : BoundForm) : Type 0 where
+  pub bound : IsBound net lines form it
+  pub unread : ReadsClock net it → ⊥
+  pub once : IsTwice (forms_of before) it → ⊥
+  pub few : IsPastLimit (forms_of before) it → ⊥
 
 -- some lines, behind bound ones, are each bound
 abbrev pub AreBound : Net → List Stated → List BoundLine → List Stated → List BoundLine → Type 0
 AreBound net lines before [] [] = Unit {0}
 AreBound net lines before [] (it ∷ bound) = ⊥
 AreBound net lines before (line ∷ some) [] = ⊥
-AreBound net lines before (line ∷ some) (it ∷ bound) = IsBoundLine net lines before line it × AreBound net lines (before ++ (it ∷ [])) some bound
+AreBound net lines before (line ∷ some) (it ∷ bound) =
+    (it.number ≡ line.number) × Stands net lines before line.form it.form × AreBound net lines (before ++ (it ∷ [])) some bound
 
 -- the fault of a line: of its names from the left, then a clock that is read, then a claim made twice, then the limit
 abbrev pub LineFails : Net → List Stated → List BoundLine → Form → Cause → Type 0

@@ -20,6 +20,14 @@ IsRoot net k = (s : ℕ) × IsRootOf net.kinds s k
 abbrev pub IsReadBy : List Numbered → List Bool → ℕ → Type 0
 IsReadBy gates marks k = (root : ℕ) × IsTrue (slice_index_or marks root false) × InCone gates root k
 
+-- node k is in the cone of the data or of the pin of some flop
+abbrev pub IsReadNode : Net → ℕ → Type 0
+IsReadNode net k = (root : ℕ) × IsRoot net root × InCone net.gates root k
+
+-- nothing is marked
+abbrev pub AreUnmarked : List Bool → Type 0
+AreUnmarked marks = (k : ℕ) → slice_index_or marks k false ≡ false
+
 -- what was marked still is, and the numbers with the property are
 pub record Adds (P : ℕ → Type 0) (old new : List Bool) : Type 0 where
   pub each : (k : ℕ) → IsTrue (slice_index_or new k false) ↔ (P k ⊎ IsTrue (slice_index_or old k false))

@@ -11,8 +11,14 @@ pub record IsTaken (before : List BoundForm) (taken : Taken) : Type 0 where
   pub tracks : Marks (Contains (all_of tracks_in before)) taken.tracks.items
   pub waives : Marks (Contains (all_of waives_in before)) taken.waives.items
 
--- the line's sources have marks
-pub record AreWithin (taken : Taken) (form : BoundForm) : Type 0 where
-  pub roles : All (λ s. s < length taken.roles.items) (roles_in form)
-  pub tracks : All (λ s. s < length taken.tracks.items) (tracks_in form)
-  pub waives : All (λ s. s < length taken.waives.items) (waives_in form)
+-- the line's sources are below the count
+pub record AreInside (count : ℕ) (form : BoundForm) : Type 0 where
+  pub roles : All (λ s. s < count) (roles_in form)
+  pub tracks : All (λ s. s < count) (tracks_in form)
+  pub waives : All (λ s. s < count) (waives_in form)
+
+-- the marks of a net of so many sources
+pub record AreSized (count : ℕ) (taken : Taken) : Type 0 where
+  pub roles : length taken.roles.items ≡ count
+  pub tracks : length taken.tracks.items ≡ count
+  pub waives : length taken.waives.items ≡ count

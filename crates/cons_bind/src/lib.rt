@@ -5,9 +5,10 @@
 //! Constraints: stands on `cons_file` for lines, and on `net_view` for nets. The event model is to read what is bound.
 #![tactic(auto)]
 
+mod binder;
 mod bound;
-mod claims;
 mod cause;
+mod claims;
 mod declarations;
 mod fault;
 mod meaning;
@@ -18,5 +19,6 @@ mod sources;
 mod tracks;
 mod wanted;
 
+pub use binder::bind;
 pub use bound::{Bound, BoundForm, BoundLine, Ports};
 pub use fault::BindFault;

@@ -6,6 +6,7 @@ ghost use Rattle.cons_bind.specs.Names.{net_of};
 ghost use Rattle.cons_bind.specs.Meaning.{IsBound, HasCause};
 ghost use Rattle.cons_bind.specs.Causes.{OnCause};
 ghost use Rattle.cons_bind.specs.DeclaredIn.{AreDeclared};
+ghost use Rattle.cons_bind.specs.Taken.{AreInside};
 
 use crate::bound::BoundForm;
 use crate::cause::Cause;
@@ -26,8 +27,9 @@ pub(crate) fn meaning<V: FlopNet>(
 ) -> Result<BoundForm, Cause>
     requires resets { length declared.now.resets.items ≡ V.source_count view.now }
     requires clocks { length declared.now.clocks.items ≡ V.source_count view.now }
-    ensures { (lines : List Stated) → let net = net_of (V.gates view.now) (V.names view.now) (V.kinds view.now) (V.named_bits view.now) in
+    ensures means { (lines : List Stated) → let net = net_of (V.gates view.now) (V.names view.now) (V.kinds view.now) (V.named_bits view.now) in
         AreDeclared net lines declared.now → MatchResult result (λ it. IsBound net lines (form_said form.entry) it) (λ cause. OnCause (HasCause net lines (form_said form.entry)) cause) }
+    ensures inside { IfOk result (λ it. AreInside (V.source_count view.now) it) }
 {
     match form {
         LineForm::Clock(port) => {

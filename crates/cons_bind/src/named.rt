@@ -1,6 +1,6 @@
 //! What a name is, where a line wants one thing of it.
 
-ghost use Rattle.std.specs.Prelude.{◌≡◌, ◌<◌, ℕ, List, length, Option, None, MatchOption, MatchResult};
+ghost use Rattle.std.specs.Prelude.{◌≡◌, ◌<◌, ℕ, List, length, Option, None, MatchOption, MatchResult, IfOk, IfSome};
 ghost use Rattle.net_view.specs.FlopNet.{FindsBit};
 ghost use Rattle.cons_file.specs.File.{Stated};
 ghost use Rattle.cons_bind.specs.Names.{net_of};
@@ -25,8 +25,9 @@ fn fit<V: FlopNet>(view: &V, declared: &Declared, wanted: Wanted, b: u32) -> Opt
     requires bit { b < length (V.named_bits view.now) }
     requires resets { length declared.now.resets.items ≡ V.source_count view.now }
     requires clocks { length declared.now.clocks.items ≡ V.source_count view.now }
-    ensures { (lines : List Stated) → let net = net_of (V.gates view.now) (V.names view.now) (V.kinds view.now) (V.named_bits view.now) in
+    ensures fits { (lines : List Stated) → let net = net_of (V.gates view.now) (V.names view.now) (V.kinds view.now) (V.named_bits view.now) in
         AreDeclared net lines declared.now → MatchOption result ((s : ℕ) → Fits net lines wanted b s → ⊥) (λ s. Fits net lines wanted b s) }
+    ensures within { IfSome result (λ s. s < V.source_count view.now) }
 {
     match wanted {
         Wanted::Input => port_at(view, b),
@@ -58,8 +59,9 @@ pub(crate) fn named<V: FlopNet>(
 ) -> Result<u32, Cause>
     requires resets { length declared.now.resets.items ≡ V.source_count view.now }
     requires clocks { length declared.now.clocks.items ≡ V.source_count view.now }
-    ensures { (lines : List Stated) → let net = net_of (V.gates view.now) (V.names view.now) (V.kinds view.now) (V.named_bits view.now) in
+    ensures means { (lines : List Stated) → let net = net_of (V.gates view.now) (V.names view.now) (V.kinds view.now) (V.named_bits view.now) in
         AreDeclared net lines declared.now → MatchResult result (λ s. Means net lines wanted name.now s) (λ cause. Fails net lines wanted name.now cause) }
+    ensures within { IfOk result (λ s. s < V.source_count view.now) }
 {
     let Some(b) = view.find(name) else {
         return Err(absence(view, name));

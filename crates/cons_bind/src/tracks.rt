@@ -1,6 +1,6 @@
 //! The flops of a `track` line.
 
-ghost use Rattle.std.specs.Prelude.{◌≡◌, ◌<◌, ℕ, ◌∷◌, [], length, All, Contains, MatchResult};
+ghost use Rattle.std.specs.Prelude.{◌≡◌, ◌<◌, ℕ, ◌∷◌, [], length, All, Contains, MatchResult, IfOk};
 ghost use Rattle.cons_bind.specs.Names.{net_of};
 ghost use Rattle.cons_bind.specs.Meaning.{AreFlops, IsNoFlop, Tracks, TrackFails};
 ghost use Rattle.cons_bind.specs.Causes.{OnCause};
@@ -15,9 +15,10 @@ use std::alloc::Global;
 /// The flops that bits are.
 fn flops_of<V: FlopNet>(alloc: Global, view: &V, bits: &[u32]) -> Result<Vec<u32>, Cause>
     requires { All (λ b. b < length (V.named_bits view.now)) bits.now }
-    ensures { let net = net_of (V.gates view.now) (V.names view.now) (V.kinds view.now) (V.named_bits view.now) in
+    ensures flops { let net = net_of (V.gates view.now) (V.names view.now) (V.kinds view.now) (V.named_bits view.now) in
         MatchResult result (λ flops. AreFlops net bits.now flops.items)
             (λ cause. OnCause (λ c. (c ≡ NotAFlop) × ((b : ℕ) × Contains bits.now b × IsNoFlop net b)) cause) }
+    ensures within { IfOk result (λ flops. All (λ s. s < V.source_count view.now) flops.items) }
 {
     let mut flops = Vec::new(alloc);
     'bits: for b in bits {
@@ -32,8 +33,9 @@ fn flops_of<V: FlopNet>(alloc: Global, view: &V, bits: &[u32]) -> Result<Vec<u32
 /// The flop of one bit.
 fn flop_of<V: FlopNet>(alloc: Global, view: &V, b: u32) -> Result<Vec<u32>, Cause>
     requires { b < length (V.named_bits view.now) }
-    ensures { let net = net_of (V.gates view.now) (V.names view.now) (V.kinds view.now) (V.named_bits view.now) in
+    ensures flops { let net = net_of (V.gates view.now) (V.names view.now) (V.kinds view.now) (V.named_bits view.now) in
         MatchResult result (λ flops. AreFlops net (b ∷ []) flops.items) (λ cause. OnCause (λ c. (c ≡ NotAFlop) × IsNoFlop net b) cause) }
+    ensures within { IfOk result (λ flops. All (λ s. s < V.source_count view.now) flops.items) }
 {
     let Some(flop) = flop_at(view, b) else {
         return Err(Cause::NotAFlop);
@@ -49,8 +51,9 @@ pub(crate) fn tracked<V: FlopNet>(
     view: &V,
     name: &str,
 ) -> Result<Vec<u32>, Cause>
-    ensures { let net = net_of (V.gates view.now) (V.names view.now) (V.kinds view.now) (V.named_bits view.now) in
+    ensures flops { let net = net_of (V.gates view.now) (V.names view.now) (V.kinds view.now) (V.named_bits view.now) in
         MatchResult result (λ flops. Tracks net name.now flops.items) (λ cause. OnCause (TrackFails net name.now) cause) }
+    ensures within { IfOk result (λ flops. All (λ s. s < V.source_count view.now) flops.items) }
 {
     if let Some(b) = view.find(name) {
         return flop_of(alloc, view, b);
