@@ -21,14 +21,14 @@ so_far_none before claims marks marked =
       from = λ is. rw none at is;
     }
 
-take_next : (xs : List ℕ) (i : ℕ) → i < length xs → take (i + 1) xs ≡ take i xs ++ (get_or xs i 0 ∷ [])
+pub take_next : (xs : List ℕ) (i : ℕ) → i < length xs → take (i + 1) xs ≡ take i xs ++ (get_or xs i 0 ∷ [])
 take_next [] i lt = absurd (omega arith)
 take_next (x ∷ xs) zero lt = refl
 take_next (x ∷ xs) (suc i) lt =
     let k : suc i + 1 ≡ suc (i + 1) = omega arith in
     rw k (ap (λ (l : List ℕ). x ∷ l) (take_next xs i (omega arith)))
 
-drop_next : (xs : List ℕ) (i : ℕ) → i < length xs → drop i xs ≡ get_or xs i 0 ∷ drop (i + 1) xs
+pub drop_next : (xs : List ℕ) (i : ℕ) → i < length xs → drop i xs ≡ get_or xs i 0 ∷ drop (i + 1) xs
 drop_next [] i lt = absurd (omega arith)
 drop_next (x ∷ xs) zero lt = refl
 drop_next (x ∷ xs) (suc i) lt =

@@ -6,3 +6,4 @@ pub mod AscendingLemmas
 pub mod ClaimsLemmas
 pub mod ReadsLemmas
 pub mod MeaningLemmas
+pub mod BindingLemmas

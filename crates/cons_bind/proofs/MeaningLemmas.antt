@@ -1,5 +1,5 @@
 -- What lines are, from what their names are.
-use Rattle.std.proofs.Common.{◌≡◌, ◌≢◌, ◌⊎◌, ℕ, zero, suc, ◌+◌, ◌<◌, ◌≤◌, Option, None, Some, Result, Ok, Err, List, [], ◌∷◌, ◌++◌, length, take, get_or, Contains, Vec, Global, refl, sym, ap, subst, ◌∙◌, inl, inr, arith}
+use Rattle.std.proofs.Common.{◌≡◌, ◌≢◌, ◌⊎◌, ℕ, zero, suc, ◌+◌, ◌<◌, ◌≤◌, Option, None, Some, Result, Ok, Err, List, [], ◌∷◌, ◌++◌, length, take, get_or, Contains, All, Vec, Global, refl, sym, ap, subst, ◌∙◌, inl, inr, arith}
 use Rattle.std.specs.Prelude.{MatchResult}
 use Rattle.net_view.specs.FlopNet.{FindsBit}
 use Rattle.net_view.specs.Cone.{Lists}
@@ -57,3 +57,9 @@ tracked_by net name bits (Err cause) none lists some fails =
     on_cause (λ c. (c ≡ NotAFlop) × ((b : ℕ) × Contains bits b × IsNoFlop net b)) (TrackFails net name)
     (λ c is. subst (TrackFails net name) (sym is.0) (inr (none, (is.1.0, (lists.whole is.1.0).0 is.1.1, is.1.2))))
     cause fails
+
+pub all_push : (P : ℕ → Type 0) (xs : List ℕ) (x : ℕ) → All P xs → P x → All P (xs ++ (x ∷ []))
+all_push P [] x all is zero d lt = is
+all_push P [] x all is (suc k) d lt = absurd (omega arith)
+all_push P (y ∷ xs) x all is zero d lt = all zero d (omega arith)
+all_push P (y ∷ xs) x all is (suc k) d lt = all_push P xs x (λ j e small. all (suc j) e (omega arith)) is k d (omega arith)

@@ -59,8 +59,9 @@ pub(crate) fn tracked<V: FlopNet>(
         return flop_of(alloc, view, b);
     }
     let bits = bits_of(alloc, view, name)?;
+    let bits = bits.as_slice();
     if bits.is_empty() {
         return Err(Cause::NoName);
     }
-    flops_of(alloc, view, &bits)
+    flops_of(alloc, view, bits)
 }
