@@ -1,6 +1,6 @@
 -- A list that numbers with a property are pushed onto, from the least on.
-use Rattle.std.proofs.Common.{◌≡◌, ◌⊎◌, ℕ, zero, suc, ◌+◌, ◌<◌, ◌≤◌, List, [], ◌∷◌, ◌++◌, length, get_or, Contains, refl, sym, subst, ◌∙◌, inl, inr, arith, length-append}
-use Rattle.std.specs.Prelude.{◌↔◌, slice_index}
+use Rattle.std.proofs.Common.{◌≡◌, ◌⊎◌, ℕ, zero, suc, ◌+◌, ◌<◌, ◌≤◌, List, [], ◌∷◌, ◌++◌, length, get_or, Contains, refl, sym, subst, inl, inr, arith, length-append}
+use Rattle.std.specs.Prelude.{◌↔◌}
 use Rattle.std.specs.List.Sorted.{IsStrictlyIncreasing}
 use Rattle.std.proofs.Math.Seq.{get_or-append_seam}
 use Rattle.std.proofs.lemmas.List.{get_or_append_left}
@@ -45,13 +45,16 @@ ascending_push xs n ascending below k lt =
 pub lists_push : (P : ℕ → Type 0) (n : ℕ) (found : List ℕ) → ListsBelow P n found → P n → ListsBelow P (n + 1) (found ++ (n ∷ []))
 lists_push P n found lists is = record {
   ascending = ascending_push found n lists.ascending (λ x member. ((lists.whole x).0 member).1);
-  whole = λ k. (λ member. elim (Contains-append_cases found (n ∷ []) k member) [
+  whole = λ k. (
+    λ member. elim (Contains-append_cases found (n ∷ []) k member) [
       | inl old ↦ let has = (lists.whole k).0 old in (has.0, omega (arith, has.1))
       | inr new ↦ let same = contains_one n k new in (subst P (sym same) is, omega (arith, same))
-    ], λ has. elim (below_or k n has.1) [
+    ],
+    λ has. elim (below_or k n has.1) [
       | inl old ↦ Contains-append_left found (n ∷ []) k ((lists.whole k).1 (has.0, old))
       | inr same ↦ Contains-append_right found (n ∷ []) k (0, omega arith, sym same)
-    ]);
+    ],
+  );
 }
   where
     below_or : (k n : ℕ) → k < n + 1 → (k < n) ⊎ (k ≡ n)
@@ -65,8 +68,9 @@ lists_skip P n found lists none = record {
   where
     below_of : (k n : ℕ) → k < n + 1 → (k < n) ⊎ (k ≡ n)
     below_of k n lt = grind arith
+
     other : (k : ℕ) → P k → k < n + 1 → k < n
-    other k is lt = elim (below_of k n lt) [ | inl old ↦ old | inr same ↦ absurd (none (subst P same is)) ]
+    other k is lt = elim (below_of k n lt) [ inl old ↦ old | inr same ↦ absurd (none (subst P same is)) ]
 
 pub lists_all : (P : ℕ → Type 0) (n : ℕ) (found : List ℕ) → ListsBelow P n found → ((k : ℕ) → P k → k < n) → Lists P found
 lists_all P n found lists within = record {

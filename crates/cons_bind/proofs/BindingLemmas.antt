@@ -1,21 +1,18 @@
 -- The faults of a line, and lines one by one.
-use Rattle.std.proofs.Common.{◌≡◌, ◌⊎◌, ℕ, zero, suc, ◌+◌, ◌<◌, ◌≤◌, Bool, true, false, Option, None, Some, Result, Ok, Err, List, [], ◌∷◌, ◌++◌, length, map, take, drop, get_or, refl, sym, ap, subst, ◌∙◌, inl, inr, arith, append_assoc, append-nil}
+use Rattle.std.proofs.Common.{◌≡◌, ℕ, zero, suc, ◌+◌, ◌<◌, Bool, true, false, Err, List, [], ◌∷◌, ◌++◌, length, map, take, drop, get_or, refl, sym, ap, subst, ◌∙◌, inl, inr, arith, append_assoc, append-nil}
 use Rattle.cons_file.specs.Forms as forms
 use Rattle.cons_file.specs.Forms.{Form}
 use Rattle.cons_file.specs.File.{Stated}
-use Rattle.net_view.specs.FlopNet.{FindsBit}
 use Rattle.cons_bind.specs.Names.{Net}
 use Rattle.cons_bind.specs.Wants.{Fails, FailsBit, misfit}
-use Rattle.cons_bind.specs.Meaning.{IsBound, HasCause, TrackFails}
+use Rattle.cons_bind.specs.Meaning.{HasCause, TrackFails}
 use Rattle.cons_bind.specs.Binding.{forms_of, Stands, AreBound, LineFails, StopsAt, Binds}
 use Rattle.cons_bind.specs.Causes.{fault_at, OnCause}
 use Rattle.cons_bind.specs.declared.cause.Cause.{Cause}
 use Rattle.cons_bind.specs.declared.cause.Cause.TheVariants.{Memory, NoName, NotOneBit, NotAnInput, NotAFlop, NotAReset, NotAClock, ClockRead, Twice, TrackLimit}
 use Rattle.cons_bind.specs.declared.wanted.Wanted.{Wanted}
 use Rattle.cons_bind.specs.declared.wanted.Wanted.TheVariants.{Input, Flop, ResetSource, DeclaredReset, DeclaredClock}
-use Rattle.cons_bind.specs.declared.bound.BoundForm.{BoundForm}
 use Rattle.cons_bind.specs.declared.bound.BoundLine.{BoundLine}
-use Rattle.cons_bind.specs.declared.bound.Bound.{Bound}
 
 -- ---- a name's fault is none of those that come after the names
 
@@ -118,7 +115,14 @@ bound_push net lines start (l ∷ some) (b ∷ bound) line it are number stands 
 -- the fault of a line, behind those before it
 pub stops : (net : Net) (lines front back : List Stated) (bad : Stated) (before : List BoundLine) (cause : Cause) → lines ≡ front ++ (bad ∷ back) → AreBound net lines [] front before → LineFails net lines before bad.form cause → StopsAt net lines cause bad.number
 stops net lines front back bad before cause parts bound fails = record {
-  front = front; bad = bad; back = back; parts = parts; before = before; bound = bound; fails = fails; number = refl
+  front = front;
+  bad = bad;
+  back = back;
+  parts = parts;
+  before = before;
+  bound = bound;
+  fails = fails;
+  number = refl;
 }
 
 pub fault_binds : (net : Net) (lines front back : List Stated) (bad : Stated) (before : List BoundLine) (cause : Cause) → lines ≡ front ++ (bad ∷ back) → AreBound net lines [] front before → OnCause (LineFails net lines before bad.form) cause

@@ -49,11 +49,11 @@ so_far_more before claims i marks lt inside unmarked so =
     let rest : drop i claims ≡ s ∷ drop (i + 1) claims = drop_next claims i lt in
     let fresh : Contains done s → ⊥ = λ is. let e = sym unmarked ∙ (so.marked.each s).1 is in absurd cc in
     let marked : Marks (Contains (done ++ (s ∷ []))) (set marks s true) =
-      marks_more (Contains done) (Contains (done ++ (s ∷ []))) marks s inside
-      (λ k is. elim (Contains-append_cases done (s ∷ []) k is) [ | inl old ↦ inl old | inr new ↦ inr (one_member s k new) ])
-      (λ k is. Contains-append_left done (s ∷ []) k is)
-      (Contains-append_right done (s ∷ []) s (0, omega arith, refl))
-      so.marked in
+    marks_more (Contains done) (Contains (done ++ (s ∷ []))) marks s inside
+    (λ k is. elim (Contains-append_cases done (s ∷ []) k is) [ inl old ↦ inl old | inr new ↦ inr (one_member s k new) ])
+    (λ k is. Contains-append_left done (s ∷ []) k is)
+    (Contains-append_right done (s ∷ []) s (0, omega arith, refl))
+    so.marked in
     record {
       marked = rw next marked;
       to = λ is. rw next (left done s (drop (i + 1) claims) fresh (rw rest at (so.to is)));

@@ -12,7 +12,7 @@ pub some_from : (P : Stated → Type 0) (lines : List Stated) (line : Stated) �
 some_from P [] line (inl here) = inr here
 some_from P [] line (inr later) = absurd later
 some_from P (x ∷ lines) line (inl here) = inl (inl here)
-some_from P (x ∷ lines) line (inr later) = elim (some_from P lines line later) [ | inl before ↦ inl (inr before) | inr last ↦ inr last ]
+some_from P (x ∷ lines) line (inr later) = elim (some_from P lines line later) [ inl before ↦ inl (inr before) | inr last ↦ inr last ]
 
 pub some_before : (P : Stated → Type 0) (lines : List Stated) (line : Stated) → SomeLine P lines → SomeLine P (lines ++ (line ∷ []))
 some_before P [] line is = absurd is
@@ -28,7 +28,7 @@ pub line_marks : (D : ℕ → Form → Type 0) → ((s t : ℕ) (form : Form) �
     → Marks (λ t. SomeLine (λ l. D t l.form) lines) marks → Marks (λ t. SomeLine (λ l. D t l.form) (lines ++ (line ∷ []))) (set marks s true)
 line_marks D once lines line marks s lt is before =
     marks_more (λ t. SomeLine (λ l. D t l.form) lines) (λ t. SomeLine (λ l. D t l.form) (lines ++ (line ∷ []))) marks s lt
-    (λ t some. elim (some_from (λ l. D t l.form) lines line some) [ | inl old ↦ inl old | inr new ↦ inr (once t s line.form new is) ])
+    (λ t some. elim (some_from (λ l. D t l.form) lines line some) [ inl old ↦ inl old | inr new ↦ inr (once t s line.form new is) ])
     (λ t some. some_before (λ l. D t l.form) lines line some)
     (some_last (λ l. D s l.form) lines line is)
     before
@@ -38,7 +38,7 @@ pub line_skips : (D : ℕ → Form → Type 0) (lines : List Stated) (line : Sta
 line_skips D lines line marks none before =
     marks_same (λ t. SomeLine (λ l. D t l.form) lines) (λ t. SomeLine (λ l. D t l.form) (lines ++ (line ∷ []))) marks
     (λ t some. some_before (λ l. D t l.form) lines line some)
-    (λ t some. elim (some_from (λ l. D t l.form) lines line some) [ | inl old ↦ old | inr new ↦ absurd (none t new) ])
+    (λ t some. elim (some_from (λ l. D t l.form) lines line some) [ inl old ↦ old | inr new ↦ absurd (none t new) ])
     before
 
 -- what is read past the end of a list of lines

@@ -1,5 +1,5 @@
 -- What lines are, from what their names are.
-use Rattle.std.proofs.Common.{◌≡◌, ◌≢◌, ◌⊎◌, ℕ, zero, suc, ◌+◌, ◌<◌, ◌≤◌, Option, None, Some, Result, Ok, Err, List, [], ◌∷◌, ◌++◌, length, take, get_or, Contains, All, Vec, Global, refl, sym, ap, subst, ◌∙◌, inl, inr, arith}
+use Rattle.std.proofs.Common.{◌≡◌, ◌≢◌, ℕ, zero, suc, None, Result, Ok, Err, List, [], ◌∷◌, ◌++◌, Contains, All, Vec, Global, sym, subst, inr, arith}
 use Rattle.std.specs.Prelude.{MatchResult}
 use Rattle.net_view.specs.FlopNet.{FindsBit}
 use Rattle.net_view.specs.Cone.{Lists}

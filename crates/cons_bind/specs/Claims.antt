@@ -5,7 +5,7 @@
 --     IsTwice before form                 a line repeats a claim
 --     IsPastLimit before form             too many flops are tracked
 --     IsReadSource net s, ReadsClock net form      a clock that is read as data
-use Rattle.std.specs.Prelude.{◌≡◌, ◌⊎◌, ℕ, ◌+◌, ◌<◌, List, [], ◌∷◌, ◌++◌, length, Option, Some, Contains}
+use Rattle.std.specs.Prelude.{◌≡◌, ◌⊎◌, ℕ, ◌+◌, ◌<◌, List, [], ◌∷◌, ◌++◌, length, Some, Contains}
 use Rattle.std.specs.List.{flat_map}
 use Rattle.net_view.specs.FlopNet.{IsFlopAt}
 use Rattle.net_view.specs.declared.flop_net.FlopOf.{FlopOf}
@@ -49,7 +49,7 @@ Repeats before (s ∷ claims) = Contains before s ⊎ Repeats (before ++ (s ∷ 
 abbrev pub IsTwice : List BoundForm → BoundForm → Type 0
 IsTwice before form =
     Repeats (all_of roles_in before) (roles_in form)
-      ⊎ (Repeats (all_of tracks_in before) (tracks_in form) ⊎ Repeats (all_of waives_in before) (waives_in form))
+    ⊎ (Repeats (all_of tracks_in before) (tracks_in form) ⊎ Repeats (all_of waives_in before) (waives_in form))
 
 -- the line is a `track` line, and more than 16 flops are tracked with it
 abbrev pub IsPastLimit : List BoundForm → BoundForm → Type 0

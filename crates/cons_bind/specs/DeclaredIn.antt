@@ -1,5 +1,5 @@
 -- The declared sources of a file, as code marks them.
-use Rattle.std.specs.Prelude.{ℕ, List}
+use Rattle.std.specs.Prelude.{List}
 use Rattle.cons_file.specs.File.{Stated}
 use Rattle.cons_bind.specs.Names.{Net}
 use Rattle.cons_bind.specs.Declarations.{IsDeclaredReset, IsDeclaredClock}

@@ -3,7 +3,7 @@
 --     Tracks, TrackFails                      the flops of a `track` line
 --     IsBound net lines form bound            the line, its names put in
 --     HasCause net lines form cause           its first name that fails, and why
-use Rattle.std.specs.Prelude.{◌≡◌, ◌≢◌, ◌⊎◌, ℕ, List, [], ◌∷◌, Option, None, Some}
+use Rattle.std.specs.Prelude.{◌≡◌, ◌≢◌, ◌⊎◌, ℕ, List, [], ◌∷◌, None, Some}
 use Rattle.cons_file.specs.Forms as forms
 use Rattle.cons_file.specs.Forms.{Form}
 use Rattle.cons_file.specs.File.{Stated}
@@ -28,7 +28,7 @@ AreFlops net (b ∷ bits) (s ∷ flops) = IsFlopBit net b s × AreFlops net bits
 abbrev pub Tracks : Net → List ℕ → List ℕ → Type 0
 Tracks net name flops =
     ((b : ℕ) × (s : ℕ) × FindsBit net.bits name (Some b) × IsFlopBit net b s × (flops ≡ s ∷ []))
-      ⊎ (FindsBit net.bits name None × ((bits : List ℕ) × Lists (IsBitOf net name) bits × (bits ≢ []) × AreFlops net bits flops))
+    ⊎ (FindsBit net.bits name None × ((bits : List ℕ) × Lists (IsBitOf net name) bits × (bits ≢ []) × AreFlops net bits flops))
 
 -- bit b is no flop
 abbrev pub IsNoFlop : Net → ℕ → Type 0
@@ -39,7 +39,7 @@ abbrev pub TrackFails : Net → List ℕ → Cause → Type 0
 TrackFails net name NoName = IsUnknown net name
 TrackFails net name NotAFlop =
     ((b : ℕ) × FindsBit net.bits name (Some b) × IsNoFlop net b)
-      ⊎ (FindsBit net.bits name None × ((b : ℕ) × IsBitOf net name b × IsNoFlop net b))
+    ⊎ (FindsBit net.bits name None × ((b : ℕ) × IsBitOf net name b × IsNoFlop net b))
 TrackFails net name _ = ⊥
 
 -- the line with its names put in

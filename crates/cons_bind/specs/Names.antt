@@ -5,7 +5,7 @@
 --     IsIndexed vector name, IsBitOf net vector b      a bit of a vector
 --     IsUnknown, IsVector            a name that is no bit's
 --     IsPortBit, IsFlopBit, IsPortOrFlopBit            bits that are ports or flops
-use Rattle.std.specs.Prelude.{◌≡◌, ◌≢◌, ◌⊎◌, ℕ, true, List, [], ◌++◌, slice_get, Option, None, Some, codes}
+use Rattle.std.specs.Prelude.{◌≡◌, ◌≢◌, ◌⊎◌, ℕ, true, List, [], ◌++◌, slice_get, None, Some, codes}
 use Rattle.std.specs.List.{list_all}
 use Rattle.std.specs.Char.{is_ascii_digit}
 use Rattle.net_view.specs.declared.gate.Gate.TheVariants.{Source}

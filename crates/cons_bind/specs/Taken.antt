@@ -1,5 +1,5 @@
 -- The claims of the lines so far, as code marks them.
-use Rattle.std.specs.Prelude.{◌≡◌, ◌<◌, ◌≤◌, ℕ, List, length, All, Contains}
+use Rattle.std.specs.Prelude.{◌≡◌, ◌<◌, ℕ, List, length, All, Contains}
 use Rattle.cons_bind.specs.Claims.{roles_in, tracks_in, waives_in, all_of}
 use Rattle.cons_bind.specs.Marks.{Marks}
 use Rattle.cons_bind.specs.declared.bound.BoundForm.{BoundForm}

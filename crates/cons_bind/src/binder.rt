@@ -44,9 +44,9 @@ fn bind_line<V: FlopNet>(
         AreDeclared net lines declared.now → Marks (IsReadSource net) reads.now → IsTaken (forms_of before) taken.old →
         tracked.old ≡ length (all_of tracks_in (forms_of before)) →
         MatchResult result
-            (λ it. Stands net lines before (form_said form.entry) it × IsTaken (forms_of before ++ it ∷ []) taken.new
-                × (tracked.new ≡ length (all_of tracks_in (forms_of before ++ it ∷ []))))
-            (λ cause. OnCause (LineFails net lines before (form_said form.entry)) cause) }
+        (λ it. Stands net lines before (form_said form.entry) it × IsTaken (forms_of before ++ it ∷ []) taken.new
+        × (tracked.new ≡ length (all_of tracks_in (forms_of before ++ it ∷ []))))
+        (λ cause. OnCause (LineFails net lines before (form_said form.entry)) cause) }
     ensures sized { AreSized (V.source_count view.now) taken.new }
     ensures few { tracked.new ≤ 16 }
 {
@@ -78,7 +78,15 @@ pub fn bind<V: FlopNet>(alloc: Global, view: &V, lines: &[Line]) -> Result<Bound
     let mut tracked = 0;
     let mut bound = Vec::with_capacity(alloc, lines.len())?;
     'lines: for line in lines {
-        match bind_line(alloc, view, &declared, &reads, &mut taken, &mut tracked, line.form) {
+        match bind_line(
+            alloc,
+            view,
+            &declared,
+            &reads,
+            &mut taken,
+            &mut tracked,
+            line.form,
+        ) {
             Ok(form) => {
                 bound.push(BoundLine {
                     number: line.number,

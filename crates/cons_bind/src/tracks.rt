@@ -17,7 +17,7 @@ fn flops_of<V: FlopNet>(alloc: Global, view: &V, bits: &[u32]) -> Result<Vec<u32
     requires { All (λ b. b < length (V.named_bits view.now)) bits.now }
     ensures flops { let net = net_of (V.gates view.now) (V.names view.now) (V.kinds view.now) (V.named_bits view.now) in
         MatchResult result (λ flops. AreFlops net bits.now flops.items)
-            (λ cause. OnCause (λ c. (c ≡ NotAFlop) × ((b : ℕ) × Contains bits.now b × IsNoFlop net b)) cause) }
+        (λ cause. OnCause (λ c. (c ≡ NotAFlop) × ((b : ℕ) × Contains bits.now b × IsNoFlop net b)) cause) }
     ensures within { IfOk result (λ flops. All (λ s. s < V.source_count view.now) flops.items) }
 {
     let mut flops = Vec::new(alloc);
@@ -46,11 +46,7 @@ fn flop_of<V: FlopNet>(alloc: Global, view: &V, b: u32) -> Result<Vec<u32>, Caus
 }
 
 /// The flops that a name is: that of the bit, or those of all bits of the vector, in name order.
-pub(crate) fn tracked<V: FlopNet>(
-    alloc: Global,
-    view: &V,
-    name: &str,
-) -> Result<Vec<u32>, Cause>
+pub(crate) fn tracked<V: FlopNet>(alloc: Global, view: &V, name: &str) -> Result<Vec<u32>, Cause>
     ensures flops { let net = net_of (V.gates view.now) (V.names view.now) (V.kinds view.now) (V.named_bits view.now) in
         MatchResult result (λ flops. Tracks net name.now flops.items) (λ cause. OnCause (TrackFails net name.now) cause) }
     ensures within { IfOk result (λ flops. All (λ s. s < V.source_count view.now) flops.items) }

@@ -1,13 +1,13 @@
 -- One more line is bound, or stops.
-use Rattle.std.proofs.Common.{◌≡◌, ◌+◌, ◌≤◌, ◌++◌, ◌∷◌, [], List, map, take, drop, get_or, refl, sym, ap, subst, ◌∙◌, arith}
+use Rattle.std.proofs.Common.{◌+◌, [], map, take, drop, get_or, refl, subst, arith}
 use Rattle.std.proofs.lemmas.List.{map_more, take_all}
-use Rattle.cons_file.specs.File.{Stated, stated, form_said}
+use Rattle.cons_file.specs.File.{stated}
 use Rattle.cons_bind.specs.Names.{net_of}
-use Rattle.cons_bind.specs.Claims.{IsReadSource, tracks_in, all_of}
+use Rattle.cons_bind.specs.Claims.{IsReadSource}
 use Rattle.cons_bind.specs.Marks.{Marks}
 use Rattle.cons_bind.specs.DeclaredIn.{AreDeclared}
-use Rattle.cons_bind.specs.Binding.{forms_of, AreBound}
-use Rattle.cons_bind.specs.Taken.{IsTaken, AreSized}
+use Rattle.cons_bind.specs.Binding.{AreBound}
+use Rattle.cons_bind.specs.Taken.{AreSized}
 use Rattle.cons_bind.proofs.LinesLemmas.{no_line}
 use Rattle.cons_bind.proofs.BindingLemmas.{bound_push, fault_binds, map_parts, forms_push}
 use Rattle.cons_bind.proofs.binder.bind.Goals as goal

@@ -1,5 +1,4 @@
 -- The line is bound, or has the first of its faults.
-use Rattle.std.proofs.Common.{◌≡◌, sym, ◌∙◌}
 use Rattle.std.proofs.lemmas.Result.{err_from_is_err_and}
 use Rattle.cons_file.specs.File.{form_said}
 use Rattle.cons_bind.specs.Names.{net_of}

@@ -1,7 +1,6 @@
 -- What is marked was claimed, and what is left decides whether a claim is repeated.
-use Rattle.std.proofs.Common.{ℕ, ◌++◌, List, take, drop, Contains}
+use Rattle.std.proofs.Common.{ℕ, List, Contains}
 use Rattle.cons_bind.specs.Marks.{Marks}
-use Rattle.cons_bind.specs.Claims.{Repeats}
 use Rattle.cons_bind.proofs.ClaimsLemmas.{SoFar}
 use Rattle.cons_bind.proofs.claims.claim.Given as goal
 

@@ -1,5 +1,5 @@
 -- One more line is looked at.
-use Rattle.std.proofs.Common.{◌≡◌, ◌+◌, ◌<◌, ◌∷◌, [], ◌++◌, true, map, take, get_or, set, length, List, Bool, Vec, Global, sym, subst, ◌∙◌, arith, length-set}
+use Rattle.std.proofs.Common.{◌≡◌, ◌<◌, ◌∷◌, [], ◌++◌, true, map, take, get_or, length, Bool, Vec, Global, sym, subst, ◌∙◌, arith, length-set}
 use Rattle.std.proofs.lemmas.List.{map_more}
 use Rattle.cons_file.specs.File.{stated}
 use Rattle.cons_bind.specs.Names.{net_of}

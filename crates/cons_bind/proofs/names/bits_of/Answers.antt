@@ -1,5 +1,5 @@
 -- A bit is listed where it is of the vector.
-use Rattle.std.proofs.Common.{◌++◌, ◌∷◌, [], ◌+◌, ◌<◌, length, List, ℕ, subst, sym, arith, Vec, Global}
+use Rattle.std.proofs.Common.{◌+◌, length, ℕ, subst, sym, arith, Vec, Global}
 use Rattle.cons_bind.specs.Names.{net_of, IsBitOf}
 use Rattle.cons_bind.proofs.NamesLemmas.{bit_of_within}
 use Rattle.cons_bind.proofs.AscendingLemmas.{ListsBelow, lists_push, lists_skip, lists_all, lists_within}

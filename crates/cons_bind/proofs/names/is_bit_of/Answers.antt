@@ -1,7 +1,5 @@
 -- A bit is of the vector where its name is.
-use Rattle.std.proofs.Common.{◌≡◌, sym, subst, ◌∙◌}
-use Rattle.cons_bind.specs.Names.{net_of, IsIndexed}
-use Rattle.std.specs.Bool.{MatchBool}
+use Rattle.cons_bind.specs.Names.{net_of}
 use Rattle.cons_bind.proofs.NamesLemmas.{bit_indexed}
 use Rattle.cons_bind.proofs.names.is_bit_of.Goals as goal
 

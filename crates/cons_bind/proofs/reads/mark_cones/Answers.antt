@@ -1,6 +1,5 @@
 -- Each marked node has its fan-ins marked.
-use Rattle.std.proofs.Common.{◌≡◌, ◌+◌, ◌-◌, ◌<◌, ℕ, subst, sym, arith}
-use Rattle.net_view.specs.View.{renumbered}
+use Rattle.std.proofs.Common.{◌≡◌, ◌+◌, ◌-◌, subst, arith}
 use Rattle.cons_bind.proofs.ReadsLemmas.{Closed, closed_none, closed_more, closed_skip, closed_all, reads_within}
 use Rattle.cons_bind.proofs.reads.mark_cones.Goals as goal
 

@@ -1,5 +1,4 @@
 -- The marked nodes that were looked at have their sources marked.
-use Rattle.std.proofs.Common.{◌≡◌, length}
 use Rattle.cons_bind.specs.Marks.{Marks}
 use Rattle.cons_bind.specs.Reading.{AreUnmarked}
 use Rattle.cons_bind.proofs.ReadsLemmas.{MarkedBelow}

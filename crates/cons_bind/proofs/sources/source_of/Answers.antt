@@ -1,8 +1,6 @@
 -- A bit is the source of its node where it has the source's name.
-use Rattle.std.proofs.Common.{◌≡◌, ◌<◌, ◌∙◌, subst, sym}
+use Rattle.std.proofs.Common.{◌<◌, ◌∙◌, subst, sym}
 use Rattle.std.proofs.lemmas.Slice.Eq.{bytes_eq-Decides}
-use Rattle.net_view.specs.View.{IsGateAt}
-use Rattle.net_view.specs.declared.gate.Gate.TheVariants.{Source}
 use Rattle.cons_bind.proofs.NamesLemmas.{node_within, source_bit}
 use Rattle.cons_bind.proofs.sources.source_of.Goals as goal
 

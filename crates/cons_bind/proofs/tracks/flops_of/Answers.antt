@@ -1,5 +1,5 @@
 -- One more bit is a flop.
-use Rattle.std.proofs.Common.{◌+◌, ◌++◌, ◌∷◌, [], ◌<◌, take, get_or, All, sym, subst, arith}
+use Rattle.std.proofs.Common.{◌<◌, take, get_or}
 use Rattle.cons_bind.specs.Names.{net_of}
 use Rattle.cons_bind.proofs.MeaningLemmas.{flops_push, all_push}
 use Rattle.cons_bind.proofs.ClaimsLemmas.{take_next}
