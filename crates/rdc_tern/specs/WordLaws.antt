@@ -21,15 +21,15 @@ pub record KeepsWidth : Type 0 where
   pub right : (w amount : List Tern) → length (shr_of w amount) ≡ length w
   pub signed_right : (w amount : List Tern) → length (sar_of w amount) ≡ length w
 
--- a word of two words keeps the order
+-- what makes a word of two words keeps the order
 abbrev pub RaisesWord : (List Tern → List Tern → List Tern) → Type 0
 RaisesWord f = (a a' b b' : List Tern) → AreBelow a a' → AreBelow b b' → AreBelow (f a b) (f a' b')
 
--- a bit of two words keeps the order
+-- what makes a bit of two words keeps the order
 abbrev pub RaisesBit : (List Tern → List Tern → Tern) → Type 0
 RaisesBit f = (a a' b b' : List Tern) → AreBelow a a' → AreBelow b b' → IsBelow (f a b) (f a' b')
 
--- a bit of one word keeps the order
+-- what makes a bit of one word keeps the order
 abbrev pub RaisesReduction : (List Tern → Tern) → Type 0
 RaisesReduction f = (a a' : List Tern) → AreBelow a a' → IsBelow (f a) (f a')
 

@@ -1,5 +1,5 @@
 //! Sums, differences and products of words, least significant bit first.
-ghost use Rattle.std.specs.Prelude.{◌≡◌, ◌≤◌, ◌+◌, length, map, IfOk};
+ghost use Rattle.std.specs.Prelude.{◌≡◌, length, map, IfOk};
 ghost use Rattle.rdc_tern.specs.Kleene.{xor_of};
 ghost use Rattle.rdc_tern.specs.Shifts.{raised};
 ghost use Rattle.rdc_tern.specs.Words.{masked, sum_bit, carry_of, sum_of, add_of, sub_of, neg_of, products_of, mul_of};
