@@ -7,3 +7,4 @@ pub mod ClaimsLemmas
 pub mod ReadsLemmas
 pub mod MeaningLemmas
 pub mod BindingLemmas
+pub mod SmallNetLemmas

@@ -11,3 +11,4 @@ pub mod Sorts
 pub mod DeclaredIn
 pub mod Taken
 pub mod Reading
+pub mod SmallNet

@@ -22,3 +22,8 @@ mod wanted;
 pub use binder::bind;
 pub use bound::{Bound, BoundForm, BoundLine, Ports};
 pub use fault::BindFault;
+
+#[cfg(test)]
+mod small_net;
+#[cfg(test)]
+mod tests;
