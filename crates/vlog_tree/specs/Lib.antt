@@ -1,0 +1,12 @@
+pub mod Lexemes
+pub mod Reserved
+pub mod Names
+pub mod Numbers
+pub mod Operators
+pub mod Expressions
+pub mod Lists
+pub mod Statements
+pub mod Items
+pub mod Modules
+pub mod Depth
+pub mod Refused
