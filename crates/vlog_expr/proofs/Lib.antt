@@ -1,0 +1,9 @@
+pub mod ClimbLemmas
+pub mod Readers
+pub mod ExprSteady
+pub mod CalmLemmas
+pub mod OthersLemmas
+pub mod Inversion
+pub mod SoundLemmas
+pub mod NextLemmas
+pub mod ClimbSound

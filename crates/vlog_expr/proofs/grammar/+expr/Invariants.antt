@@ -1,0 +1,5 @@
+-- The depth falls.
+use Rattle.vlog_expr.proofs.grammar.+expr.Given as goal
+
+abbrev pub decreases-expr : goal.decreases-expr
+decreases-expr l = l.depth

@@ -1,0 +1,5 @@
+pub mod Reading
+pub mod Exprs
+pub mod Ahead
+pub mod Nests
+pub mod Begins
