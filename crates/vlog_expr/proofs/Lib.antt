@@ -7,3 +7,4 @@ pub mod Inversion
 pub mod SoundLemmas
 pub mod NextLemmas
 pub mod ClimbSound
+pub mod CountedLemmas

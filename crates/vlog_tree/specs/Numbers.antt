@@ -1,8 +1,7 @@
 -- What a number is worth (IEEE 1364-2005, 3.5.1). Its text is well formed, which the lexer sees to.
 --     is_z d, is_x d               z and x digits
 --     radix base, digit_value d    what a digit counts
---     bits_from r v ds             the bits with more digits on the right
---     z_from r v ds                the same of the positions that z digits take
+--     counted worth r v ds         what digits are worth, by what each counts
 --     plain_in ds, based_in size bs, number_in bs      a number without and with a base, and either
 --     number_of l                  the number that a lexeme is, if it is one and has no x digit
 --     has_x l, has_z l             it has such a digit
@@ -41,14 +40,10 @@ digit_value d = if is_digit d then d - 48 else (if is_within 97 102 d then d - 8
 unfoldable pub z_value : ℕ → ℕ → ℕ
 z_value r d = if is_z d then r - 1 else 0
 
--- `_` adds nothing
-unfoldable pub bits_from : ℕ → ℕ → List ℕ → ℕ
-bits_from r v [] = v
-bits_from r v (d ∷ ds) = bits_from r (if d == 95 then v else r * v + digit_value d) ds
-
-unfoldable pub z_from : ℕ → ℕ → List ℕ → ℕ
-z_from r v [] = v
-z_from r v (d ∷ ds) = z_from r (if d == 95 then v else r * v + z_value r d) ds
+-- what v and the digits behind it are worth, each digit by what it counts; `_` adds nothing
+unfoldable pub counted : (ℕ → ℕ) → ℕ → ℕ → List ℕ → ℕ
+counted worth r v [] = v
+counted worth r v (d ∷ ds) = counted worth r (if d == 95 then v else r * v + worth d) ds
 
 -- what stands to the left of the first digit: z where it is one
 unfoldable pub z_before : List ℕ → ℕ
@@ -75,8 +70,8 @@ worth sized signed base width ds = record {
   signed = signed;
   base = base;
   width = width;
-  bits = bits_from (radix base) 0 ds % 2 ^ width;
-  z = z_from (radix base) (z_before ds) ds % 2 ^ width;
+  bits = counted digit_value (radix base) 0 ds % 2 ^ width;
+  z = counted (z_value (radix base)) (radix base) (z_before ds) ds % 2 ^ width;
 }
 
 -- s or S
