@@ -8,3 +8,9 @@ pub mod SoundLemmas
 pub mod NextLemmas
 pub mod ClimbSound
 pub mod CountedLemmas
+pub mod MarkLemmas
+pub mod OpenLemmas
+pub mod SpelledLemmas
+pub mod Forward
+pub mod Complete
+pub mod Whole
