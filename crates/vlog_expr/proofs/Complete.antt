@@ -101,7 +101,7 @@ lower_end k l o known low = by (next_at (k + 1) l) refl
         absurd (omega (arith, ap level_of same))
 
 -- what is no operator of a level is none of a higher one
-higher_end : (j k : ℕ) (l : Option Lexeme) → next_at j l ≡ End → j ≤ k → 1 ≤ k → next_at k l ≡ End
+pub higher_end : (j k : ℕ) (l : Option Lexeme) → next_at j l ≡ End → j ≤ k → 1 ≤ k → next_at k l ≡ End
 higher_end j k l done le some = by (next_at k l) refl
   where
     by : (next : Next) → next_at k l ≡ next → next_at k l ≡ End

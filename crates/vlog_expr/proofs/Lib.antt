@@ -14,3 +14,5 @@ pub mod SpelledLemmas
 pub mod Forward
 pub mod Complete
 pub mod Whole
+pub mod Graft
+pub mod Answered

@@ -17,7 +17,7 @@ use Rattle.vlog_expr.proofs.MarkLemmas.{ends_at}
 use Rattle.vlog_expr.proofs.SpelledLemmas.{sized}
 use Rattle.vlog_expr.proofs.Complete.{complete, part_read}
 
-at_end : (k : ℕ) → next_at k (first []) ≡ End
+pub at_end : (k : ℕ) → next_at k (first []) ≡ End
 unfolding first sees mark_if binary_of
 at_end k = ends_at k None refl refl
 

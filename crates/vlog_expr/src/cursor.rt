@@ -159,7 +159,7 @@ impl<'t> Cursor<'t> {
 }
 
 /// The bytes of a token.
-fn bytes_of<'t>(bytes: &'t [u8], token: Token) -> &'t [u8]
+pub(crate) fn bytes_of<'t>(bytes: &'t [u8], token: Token) -> &'t [u8]
     requires order { token.from ≤ token.to }
     requires within { token.to ≤ length bytes.now }
     ensures { result.now ≡ take (token.to - token.from) (drop token.from bytes.now) }

@@ -40,7 +40,7 @@ fn reserved_with(letter: u8) -> &'static [&'static str]
 }
 
 /// The word is one of these.
-fn is_one_of(word: &[u8], table: &[&str]) -> bool
+pub(crate) fn is_one_of(word: &[u8], table: &[&str]) -> bool
     ensures { result ≡ list_any (bytes_eq word.now) (map (λ t. t.now) table.now) }
 {
     for w in table {
