@@ -27,7 +27,7 @@ use Rattle.vlog_expr.proofs.Whole.{at_end, whole_read}
 use Rattle.vlog_expr.proofs.Graft.{some_name, questioned, selected, after_operator, after_question, after_open}
 
 -- a reading takes such steps
-stepped : (d : ℕ) (ls : List Lexeme) (v : Result Expr Stuck) (rest : List Lexeme) → expr d 0 ls ≡ (v, rest) → Steps (expr d 0) ls v rest
+pub stepped : (d : ℕ) (ls : List Lexeme) (v : Result Expr Stuck) (rest : List Lexeme) → expr d 0 ls ≡ (v, rest) → Steps (expr d 0) ls v rest
 stepped d ls v rest h = subst (λ o. Steps (expr d 0) ls o.0 o.1) h ((expr_calm d d (omega arith) 0).local ls)
 
 -- a reading that doesn't want room is the same with more

@@ -1,5 +1,5 @@
 -- What is read with operators is spelled, and the next lexeme goes on with none of them.
-use Rattle.std.proofs.Common.{◌≡◌, ℕ, zero, suc, ◌+◌, ◌-◌, ◌<◌, ◌≤◌, max, Bool, true, false, List, [], ◌∷◌, ◌++◌, length, drop, Option, Some, None, Result, Ok, Err, refl, sym, ap, ◌∙◌, subst, append_assoc, arith}
+use Rattle.std.proofs.Common.{◌≡◌, ℕ, zero, suc, ◌+◌, ◌-◌, ◌<◌, ◌≤◌, max, Bool, true, false, List, [], ◌∷◌, ◌++◌, length, drop, Option, Some, None, Result, Ok, Err, refl, sym, ap, ◌∙◌, subst, append_assoc, length-append, arith}
 use Rattle.std.specs.Prelude.{nat_le, if◌then◌else◌, codes}
 use Rattle.std.proofs.lemmas.Bool.{leb-true}
 use Rattle.rdc_outside.specs.declared.source.Place.{Place}
@@ -18,6 +18,7 @@ use Rattle.vlog_expr.specs.declared.cursor.Next.{Next}
 use Rattle.vlog_expr.specs.declared.cursor.Next.TheVariants.{Operator, Question, End}
 use Rattle.vlog_expr.specs.Reading.{Outcome, Reader, first, onward, ◌>>=◌, ◌>>◌, pure, stop, sees, expect, mark_if, place_if}
 use Rattle.vlog_expr.specs.Exprs.{next_at, unary_at, within, primary, negated, operand_by, operand, choice, right, step_by, climb, whole, expr}
+use Rattle.vlog_expr.proofs.SpelledLemmas.{sized}
 use Rattle.vlog_expr.proofs.Inversion.{went, met, gave, with_last, with_middle}
 use Rattle.vlog_expr.proofs.NextLemmas.{some_level, low_level, next_operator, next_question, next_later}
 use Rattle.vlog_expr.proofs.ExprSteady.{no_operator}
@@ -195,6 +196,16 @@ module _ (room : ℕ) (inner : ℕ → Reader Expr) (read : (level : ℕ) (ls : 
   unfolding operand_by
   no_operand_by level place None x rest none h = no_primary room inner read place x rest h
   no_operand_by level place (Some o) x rest none h = cc
+
+  -- the first operand takes at least as many lexemes as it is deep
+  pub operand_taken : (level : ℕ) (ls : List Lexeme) (x : Expr) (rest : List Lexeme) → operand room inner level (place_if (first ls)) ls ≡ (Ok x, rest) → (1 ≤ depth x) × (depth x + length rest ≤ length ls)
+  unfolding first place_if operand
+  operand_taken level [] x rest h = absurd (no_operand_by level (place_if None) (unary_at level None) x rest (no_operator level) h)
+  operand_taken level (l ∷ ls) x rest h =
+      let s = operand_sound level l ls x rest h in
+      let z = sized (s.left.spelled 1 s.left.some) in
+      let most = z.most in
+      (z.some, omega (arith, ap length s.parts, length-append s.taken rest))
 
   whole_sound : (level : ℕ) (ls : List Lexeme) (x : Expr) (rest : List Lexeme) → whole room inner level ls ≡ (Ok x, rest) → Sound (suc room) level ls x rest
   unfolding whole first place_if Further operand

@@ -16,3 +16,5 @@ pub mod Complete
 pub mod Whole
 pub mod Graft
 pub mod Answered
+pub mod ShallowLemmas
+pub mod ParserLemmas

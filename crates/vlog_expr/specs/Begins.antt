@@ -12,8 +12,6 @@ use Rattle.vlog_tree.specs.Depth.{depth}
 use Rattle.vlog_tree.specs.Refused.{is_refused}
 use Rattle.vlog_expr.specs.declared.fault.ExprFault.{ExprFault}
 use Rattle.vlog_expr.specs.declared.fault.ExprFault.TheVariants.{Memory, Unsupported, Syntax, TooDeep}
-use Rattle.vlog_expr.specs.declared.stuck.Stuck.{Stuck}
-use Rattle.vlog_expr.specs.declared.stuck.Stuck.TheVariants as stuck
 use Rattle.vlog_expr.specs.Reading.{first}
 
 -- one list of lexemes spells at most one expression
@@ -81,9 +79,7 @@ IsFault end ls (Unsupported word place) = Refuses end ls place (Some word)
 IsFault end ls (Syntax place) = Refuses end ls place None
 IsFault end ls (TooDeep place) = RefusesDepth end ls place
 
--- the fault at a place for why a reader stops
-unfoldable pub fault_of : Place → Option (List ℕ) → Stuck → ExprFault
-fault_of place word stuck.Memory = Memory
-fault_of place word stuck.Deep = TooDeep place
-fault_of place None stuck.Wrong = Syntax place
-fault_of place (Some word) stuck.Wrong = Unsupported word place
+-- the fault at a place, where the lexeme is refused by name or not
+unfoldable pub fault_of : Place → Option (List ℕ) → ExprFault
+fault_of place None = Syntax place
+fault_of place (Some word) = Unsupported word place

@@ -8,6 +8,8 @@ use Rattle.vlog_expr.proofs.Inversion.{gave}
 use Rattle.vlog_expr.proofs.Whole.{whole_read}
 use Rattle.vlog_expr.proofs.Graft.{after_open}
 use Rattle.vlog_expr.proofs.Answered.{answered}
+use Rattle.vlog_expr.proofs.ShallowLemmas.{expr_steady}
+use Rattle.vlog_expr.proofs.ParserLemmas.{deep_fault}
 use Rattle.vlog_expr.proofs.laws.one_expression.Goals as goal
 
 pub returns : goal.returns
