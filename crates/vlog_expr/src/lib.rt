@@ -16,3 +16,6 @@ mod stuck;
 pub use fault::ExprFault;
 pub use laws::one_expression;
 pub use parser::parse_expr;
+
+#[cfg(test)]
+mod tests;
