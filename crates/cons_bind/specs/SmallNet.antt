@@ -3,7 +3,7 @@
 --   q[0] 3, q[1] 4          flops of a register that take d, and d and q[0]; their pin is r, active low
 --   u1.f 6                  a flop without a pin, which takes q[0]
 -- Further bits: a+b and v[1] are d and q[0], v[0] is a copy of q[0], and w one of u1.f.
-use Rattle.std.specs.Prelude.{ℕ, Bool, true, false, List, [], ◌∷◌, Option, Some, None, codes}
+use Rattle.std.specs.Prelude.{ℕ, true, false, List, [], ◌∷◌, Option, Some, None, codes}
 use Rattle.net_view.specs.declared.gate.Gate.TheVariants.{Source, And}
 use Rattle.net_view.specs.declared.flop_net.SrcKind.TheVariants.{Port, Flop}
 use Rattle.net_view.specs.declared.flop_net.FlopOf.{FlopOf}
