@@ -1,17 +1,18 @@
 -- From what the reader gives to what is answered.
-use Rattle.std.proofs.Common.{◌≡◌, ℕ, zero, suc, ◌+◌, ◌-◌, ◌<◌, ◌≤◌, true, false, ◌⊎◌, inl, inr, List, [], ◌∷◌, ◌++◌, length, take, drop, Option, Some, None, Result, Ok, Err, refl, sym, ap, ◌∙◌, subst, append_assoc, length-append, arith}
+use Rattle.std.proofs.Common.{map, ◌≢◌, ◌≡◌, ℕ, zero, suc, ◌+◌, ◌-◌, ◌<◌, ◌≤◌, true, false, ◌⊎◌, inl, inr, List, [], ◌∷◌, ◌++◌, length, take, drop, Option, Some, None, Result, Ok, Err, refl, sym, ap, ◌∙◌, subst, append_assoc, length-append, arith}
 use Rattle.std.specs.Prelude.{nat_le, Bool}
 use Rattle.std.proofs.lemmas.Bool.{leb-true, leb-false}
-use Rattle.std.proofs.lemmas.List.{append_cancel_right}
+use Rattle.std.proofs.lemmas.List.{append_cancel_right, take-map, drop-map}
+use Rattle.vlog_lex.specs.declared.tokens.Token.{Token}
 use Rattle.std.proofs.Math.Seq.{take-append_seam, drop-append_seam}
 use Rattle.rdc_outside.specs.declared.source.Place.{Place}
 use Rattle.vlog_tree.specs.declared.expr.Expr.{Expr}
-use Rattle.vlog_tree.specs.Lexemes.{Lexeme}
+use Rattle.vlog_tree.specs.Lexemes.{Lexeme, lexeme, lexemes}
 use Rattle.vlog_tree.specs.Depth.{depth}
 use Rattle.vlog_expr.specs.declared.fault.ExprFault.{ExprFault}
 use Rattle.vlog_expr.specs.declared.fault.ExprFault.TheVariants as fault
 use Rattle.vlog_expr.specs.declared.stuck.Stuck.{Stuck}
-use Rattle.vlog_expr.specs.declared.stuck.Stuck.TheVariants.{Wrong, Deep}
+use Rattle.vlog_expr.specs.declared.stuck.Stuck.TheVariants.{Memory, Wrong, Deep}
 use Rattle.vlog_expr.specs.Reading.{Outcome, first}
 use Rattle.vlog_expr.specs.Exprs.{expr}
 use Rattle.vlog_expr.specs.Begins.{NoneBegins, IsAnswer, IsFault, last, refusal, named_place, fault_of}
@@ -112,3 +113,32 @@ deep_fault end ls rest at place h e is =
       none = deep_begins (take at ls) rest here;
       many = long_by (take at ls) rest here;
     }
+
+-- a reading that stops for want of no memory
+pub stop_read : (ls cursor rest : List Lexeme) (why w : Stuck) → cursor ≡ ls → (why ≢ Memory → expr 255 0 cursor ≡ (Err why, rest)) → why ≡ w → w ≢ Memory → expr 255 0 ls ≡ (Err w, rest)
+stop_read ls cursor rest why w same reads is fresh =
+    ap (expr 255 0) (sym same) ∙ (reads (λ e. fresh (sym is ∙ e)) ∙ ap (λ v. (Err v, rest)) is)
+
+pub fresh_wrong : Wrong ≢ Memory
+fresh_wrong e = cc
+
+pub fresh_deep : Deep ≢ Memory
+fresh_deep e = cc
+
+-- said of the tokens, and said of their lexemes
+pub place_cut : (f : Token → Lexeme) (end : Place) (ahead rest : List Token) (at : ℕ) (place : Place) → rest ≡ drop at ahead → place ≡ named_place end (first (map f rest)) → place ≡ named_place end (first (drop at (map f ahead)))
+place_cut f end ahead rest at place back is = is ∙ (ap (λ z. named_place end (first (map f z))) back ∙ ap (λ z. named_place end (first z)) (sym (drop-map f at ahead)))
+
+pub wrong_cut : (f : Token → Lexeme) (end : Place) (ahead pre rest : List Token) (at : ℕ) (x : ExprFault) → pre ≡ take at ahead → rest ≡ drop at ahead
+    → (x ≡ fault.Memory) ⊎ (x ≡ fault_of (named_place end (first (map f rest))) (refusal (last (map f pre)) (first (map f rest))))
+    → (x ≡ fault.Memory) ⊎ (x ≡ fault_of (named_place end (first (drop at (map f ahead)))) (refusal (last (take at (map f ahead))) (first (drop at (map f ahead)))))
+wrong_cut f end ahead pre rest at x before back (inl memory) = inl memory
+wrong_cut f end ahead pre rest at x before back (inr is) =
+    let b : map f rest ≡ drop at (map f ahead) = ap (map f) back ∙ sym (drop-map f at ahead) in
+    let a : map f pre ≡ take at (map f ahead) = ap (map f) before ∙ sym (take-map f at ahead) in
+    inr (is ∙ (ap (λ z. fault_of (named_place end (first z)) (refusal (last (map f pre)) (first z))) b ∙ ap (λ z. fault_of (named_place end (first (drop at (map f ahead)))) (refusal (last z) (first (drop at (map f ahead))))) a))
+
+-- the lexemes of the tokens from a number on
+pub same_lexemes : (bytes lent : List ℕ) (places stood : List Place) (tokens ahead : List Token) (from : ℕ) → lent ≡ bytes → stood ≡ places → ahead ≡ drop from tokens → lexemes lent stood ahead ≡ drop from (lexemes bytes places tokens)
+same_lexemes bytes lent places stood tokens ahead from b p e =
+    ap (λ z. lexemes z stood ahead) b ∙ (ap (λ z. lexemes bytes z ahead) p ∙ (ap (λ z. lexemes bytes places z) e ∙ sym (drop-map (lexeme bytes places) from tokens)))
