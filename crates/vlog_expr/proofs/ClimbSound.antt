@@ -164,7 +164,9 @@ module _ (room : ℕ) (inner : ℕ → Reader Expr) (read : (level : ℕ) (ls : 
         taken = l ∷ s.taken;
         parts = ap (λ z. l ∷ z) (s.parts ∙ ap (λ z. s.taken ++ z) g.left);
         left = record {
-          own = 12; high = low; some = omega arith;
+          own = 12;
+          high = low;
+          some = omega arith;
           spelled = λ j fits. spelling.unary l o s.taken u.answer fits known s.spelled refl g.same;
           fits = λ p next. (let few = low_level p in omega arith);
           begins = λ vs. refl;
@@ -243,7 +245,7 @@ module _ (room : ℕ) (inner : ℕ → Reader Expr) (read : (level : ℕ) (ls : 
       ap (λ z. next_at z (first rest)) q.0 ∙ chosen_stops level left place ls x rest (had_room room inner read (nat_le (depth left) room) (choice room inner place left) ls x rest h)
   stops_by n level further place left ls x rest (Operator o) seen h =
       let a = went (right room inner o ls).0 (right room inner o ls).1 (λ b. climb room inner n level place (e.Binary place o left b)) x rest
-          (had_room room inner read (nat_le (depth left) room) (right room inner o >>= (λ b. climb room inner n level place (e.Binary place o left b))) ls x rest h) in
+      (had_room room inner read (nat_le (depth left) room) (right room inner o >>= (λ b. climb room inner n level place (e.Binary place o left b))) ls x rest h) in
       further place (e.Binary place o left a.answer) (right room inner o ls).1 x rest a.onwards
 
   climb_stops : (n level : ℕ) → Stops n level
@@ -260,6 +262,7 @@ module _ (room : ℕ) (inner : ℕ → Reader Expr) (read : (level : ℕ) (ls : 
 
 mutual
   unfolding expr
+
   pub expr_sound : (d level : ℕ) (ls : List Lexeme) (x : Expr) (rest : List Lexeme) → expr d level ls ≡ (Ok x, rest) → Sound d level ls x rest
   expr_sound zero level ls x rest h = let never = ap (λ o. o.0) h in cc
   expr_sound (suc d) level ls x rest h = whole_sound d (expr d) (expr_sound d) (expr_stops d) level ls x rest h

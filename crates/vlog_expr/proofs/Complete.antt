@@ -164,13 +164,14 @@ further_by d comma ls fs rest commas t (suc m) le =
 
 mutual
   unfolding first mark_if
+
   pub complete : {j : ℕ} {us : List Lexeme} {x : Expr} → Spells j us x → Completes j us x
   complete {us = us} (number l n known is xe) room level rest low shallow follows unopened =
       moved (first_reached room level l [] (e.Number l.place n) rest (read_primary room (expr room) level l.place l rest (no_sign l (numbered l n known)) ∙ read_number room (expr room) l.place l rest n known))
       is (xe ∙ ap (λ p. e.Number p n) (start_at us l [] is))
   complete {us = us} (name l called known is xe) room level rest low shallow follows unopened =
       moved (first_reached room level l [] (e.Name l.place called) rest
-          (read_primary room (expr room) level l.place l rest (no_sign l (called_mark l called known)) ∙ read_name room (expr room) l.place l rest called known (unopened (ap ends_open xe ∙ open-Name (start us) called))))
+      (read_primary room (expr room) level l.place l rest (no_sign l (called_mark l called known)) ∙ read_name room (expr room) l.place l rest called known (unopened (ap ends_open xe ∙ open-Name (start us) called))))
       is (xe ∙ ap (λ p. e.Name p called) (start_at us l [] is))
   complete {us = us} (index l left close called is i known opens inside closes parts xe) room level rest low shallow follows unopened =
       let deep = ap depth xe ∙ depth-Index (start us) called i in
@@ -179,8 +180,8 @@ mutual
       let us' = is ++ close ∷ [] in
       let read = ap (expr room 0) (append_assoc is (close ∷ []) rest) ∙ inside_read (complete inside) s.some room close rest (omega arith) (quiet_square close closes) in
       moved (first_reached room level l (left ∷ us') (e.Index l.place called i) rest
-          (read_primary room (expr room) level l.place l (left ∷ (us' ++ rest)) (no_sign l (called_mark l called known))
-          ∙ read_index room (expr room) l.place l left close (us' ++ rest) rest called i known opens (omega arith) read closes))
+      (read_primary room (expr room) level l.place l (left ∷ (us' ++ rest)) (no_sign l (called_mark l called known))
+      ∙ read_index room (expr room) l.place l left close (us' ++ rest) rest called i known opens (omega arith) read closes))
       parts (xe ∙ ap (λ p. e.Index p called i) (start_at us l (left ∷ us') parts))
   complete {us = us} (select l left mark close called part is js i j known opens inside seen second closes parts xe) room level rest low shallow follows unopened =
       let deep = ap depth xe ∙ depth-Select (start us) called part i j in
@@ -192,8 +193,8 @@ mutual
       let read = ap (expr room 0) (append_assoc is (mark ∷ vs) rest) ∙ inside_read (complete inside) s.some room mark (vs ++ rest) (omega arith) (quiet_part mark part seen) in
       let reads = ap (expr room 0) (append_assoc js (close ∷ []) rest) ∙ inside_read (complete second) t.some room close rest (omega arith) (quiet_square close closes) in
       moved (first_reached room level l (left ∷ us') (e.Select l.place called part i j) rest
-          (read_primary room (expr room) level l.place l (left ∷ (us' ++ rest)) (no_sign l (called_mark l called known))
-          ∙ read_select room (expr room) l.place l left mark close (us' ++ rest) (vs ++ rest) rest called part i j known opens (omega arith) read seen reads closes))
+      (read_primary room (expr room) level l.place l (left ∷ (us' ++ rest)) (no_sign l (called_mark l called known))
+      ∙ read_select room (expr room) l.place l left mark close (us' ++ rest) (vs ++ rest) rest called part i j known opens (omega arith) read seen reads closes))
       parts (xe ∙ ap (λ p. e.Select p called part i j) (start_at us l (left ∷ us') parts))
   complete {us = us} (brackets left close is i opens inside closes parts xe) room level rest low shallow follows unopened =
       let deep = ap depth xe ∙ depth-Brackets (start us) i in
@@ -202,8 +203,8 @@ mutual
       let us' = is ++ close ∷ [] in
       let read = ap (expr room 0) (append_assoc is (close ∷ []) rest) ∙ inside_read (complete inside) s.some room close rest (omega arith) (quiet_round close closes) in
       moved (first_reached room level left us' (e.Brackets left.place i) rest
-          (read_primary room (expr room) level left.place left (us' ++ rest) (no_round left opens)
-          ∙ read_brackets room (expr room) left.place left close (us' ++ rest) rest i opens (omega arith) read closes))
+      (read_primary room (expr room) level left.place left (us' ++ rest) (no_round left opens)
+      ∙ read_brackets room (expr room) left.place left close (us' ++ rest) rest i opens (omega arith) read closes))
       parts (xe ∙ ap (λ p. e.Brackets p i) (start_at us left us' parts))
   complete {us = us} (concat left close is es opens inside closes parts xe) room level rest low shallow follows unopened =
       let deep = ap depth xe ∙ depth-Concat (start us) es in
@@ -213,8 +214,8 @@ mutual
       let t = complete_list inside room close rest (omega arith) (quiet_brace close closes) (unseen (codes "}") (codes ",") close closes refl) (unseen (codes "}") (codes "{") close closes refl) in
       let read = ap (expr room 0) (append_assoc is (close ∷ []) rest) ∙ t.read in
       moved (first_reached room level left us' (e.Concat left.place (t.member ∷ t.members)) rest
-          (read_primary room (expr room) level left.place left (us' ++ rest) (no_curly left opens)
-          ∙ read_concat room (expr room) left.place left close (us' ++ rest) t.mid rest t.member t.members opens (omega arith) read t.unbraced (t.further (length t.mid) (omega arith)) closes))
+      (read_primary room (expr room) level left.place left (us' ++ rest) (no_curly left opens)
+      ∙ read_concat room (expr room) left.place left close (us' ++ rest) t.mid rest t.member t.members opens (omega arith) read t.unbraced (t.further (length t.mid) (omega arith)) closes))
       parts (xe ∙ (ap (λ p. e.Concat p es) (start_at us left us' parts) ∙ ap (λ z. e.Concat left.place z) t.all))
   complete {us = us} (repeat left open_inner outer close zs is c es opens count opened inside closed closes parts xe) room level rest low shallow follows unopened =
       let deep = ap depth xe ∙ depth-Repeat (start us) c es in
@@ -227,15 +228,15 @@ mutual
       let t = complete_list inside room outer (close ∷ rest) (omega arith) (quiet_brace outer closed) (unseen (codes "}") (codes ",") outer closed refl) (unseen (codes "}") (codes "{") outer closed refl) in
       let read = ap (expr room 0) (append_assoc is (outer ∷ close ∷ []) rest) ∙ t.read in
       moved (first_reached room level left us' (e.Repeat left.place c (t.member ∷ t.members)) rest
-          (read_primary room (expr room) level left.place left (us' ++ rest) (no_curly left opens)
-          ∙ read_repeat room (expr room) left.place left open_inner outer close (us' ++ rest) (vs ++ rest) t.mid rest c t.member t.members opens (omega arith) first_read opened read (t.further (length t.mid) (omega arith)) closed closes))
+      (read_primary room (expr room) level left.place left (us' ++ rest) (no_curly left opens)
+      ∙ read_repeat room (expr room) left.place left open_inner outer close (us' ++ rest) (vs ++ rest) t.mid rest c t.member t.members opens (omega arith) first_read opened read (t.further (length t.mid) (omega arith)) closed closes))
       parts (xe ∙ (ap (λ p. e.Repeat p c es) (start_at us left us' parts) ∙ ap (λ z. e.Repeat left.place c z) t.all))
   complete {us = us} (unary mark op us' u top known inside parts xe) room level rest low shallow follows unopened =
       let deep = ap depth xe ∙ depth-Unary (start us) op u in
       let s = sized inside in
       let some = s.some in
       let read = part_read (complete inside) s.some room 13 rest (omega arith) (omega arith) (record { loose = λ z. absurd (omega arith); tight = top_end (13 + 1) (first rest) (omega arith) })
-          (λ open_end. unopened (ap ends_open xe ∙ (open-Unary (start us) op u ∙ open_end))) (top_end 13 (first rest) (omega arith)) in
+      (λ open_end. unopened (ap ends_open xe ∙ (open-Unary (start us) op u ∙ open_end))) (top_end 13 (first rest) (omega arith)) in
       moved (first_reached room level mark us' (e.Unary mark.place op u) rest (read_unary room (expr room) level mark.place mark op (us' ++ rest) rest u (omega arith) known (omega arith) read))
       parts (xe ∙ ap (λ p. e.Unary p op u) (start_at us mark us' parts))
   complete {j = j} {us = us} (binary mark op xs ys a b top left_part known right_part parts xe) room level rest low shallow follows unopened =
@@ -246,10 +247,10 @@ mutual
       let t = sized right_part in
       let later = higher_end (j + 1) (k + 1) (first rest) follows.tight (omega arith) (omega arith) in
       let read = part_read (complete right_part) t.some room (k + 1) rest (omega arith) (omega arith)
-          (record { loose = λ z. absurd (omega arith); tight = higher_end (j + 1) (k + 1 + 1) (first rest) follows.tight (omega arith) (omega arith) })
-          (λ open_end. unopened (ap ends_open xe ∙ (open-Binary (start us) op a b ∙ open_end))) later in
+      (record { loose = λ z. absurd (omega arith); tight = higher_end (j + 1) (k + 1 + 1) (first rest) follows.tight (omega arith) (omega arith) })
+      (λ open_end. unopened (ap ends_open xe ∙ (open-Binary (start us) op a b ∙ open_end))) later in
       let r = complete left_part room level (mark ∷ (ys ++ rest)) (omega arith) (omega arith)
-          (record { loose = λ z. absurd (omega arith); tight = lower_end k (Some mark) op known (omega arith) }) (λ open_end. unopened_operator mark op known) in
+      (record { loose = λ z. absurd (omega arith); tight = lower_end k (Some mark) op known (omega arith) }) (λ open_end. unopened_operator mark op known) in
       let enough = r.enough in
       let place = start xs in
       let turn : suc (r.turns - 1) ≡ r.turns = omega arith in
@@ -276,9 +277,9 @@ mutual
       let place = start xs in
       let read_a = inside_read (complete middle) t.some room colon (zs ++ rest) (omega arith) (quiet_colon colon colons) in
       let read_b = part_read (complete last) u.some room 0 rest (omega arith) (omega arith) (record { loose = λ z. done; tight = higher_end 0 (0 + 1) (first rest) done (omega arith) (omega arith) })
-          (λ open_end. unopened (ap ends_open xe ∙ (open-Conditional (start us) test a b ∙ open_end))) done in
+      (λ open_end. unopened (ap ends_open xe ∙ (open-Conditional (start us) test a b ∙ open_end))) done in
       let r = complete left_part room 0 (question ∷ (ys ++ colon ∷ (zs ++ rest))) (omega arith) (omega arith)
-          (record { loose = λ z. absurd (omega arith); tight = asking question asks 1 }) (λ open_end. unseen (codes "?") (codes "[") question asks refl) in
+      (record { loose = λ z. absurd (omega arith); tight = asking question asks 1 }) (λ open_end. unseen (codes "?") (codes "[") question asks refl) in
       let enough = r.enough in
       let chosen = read_choice room (expr room) place test a b question colon (ys ++ colon ∷ (zs ++ rest)) (zs ++ rest) rest read_a colons read_b in
       let vs = ys ++ colon ∷ zs in

@@ -65,12 +65,18 @@ after_operator {ls = ls} {x = x} (binary m p xs ys a b top c d f parts g) level 
     by false fits deeper =
         let more = leb-false (level_of o) (level_of p) fits in
         let s = deeper (omega arith) in
-        record { expr = _; spelled = binary m p xs (ys ++ t ∷ some_name t.place ∷ []) a s.expr (omega arith) c d s.spelled
-            (ap (λ z. z ++ t ∷ some_name t.place ∷ []) parts ∙ append_assoc xs (m ∷ ys) (t ∷ some_name t.place ∷ [])) refl }
+        record {
+          expr = _;
+          spelled = binary m p xs (ys ++ t ∷ some_name t.place ∷ []) a s.expr (omega arith) c d s.spelled
+              (ap (λ z. z ++ t ∷ some_name t.place ∷ []) parts ∙ append_assoc xs (m ∷ ys) (t ∷ some_name t.place ∷ [])) refl;
+        }
 after_operator {ls = ls} {x = x} (conditional q k xs ys zs a b c none d f g h i parts m) level t o known low lower =
     let s = after_operator i 0 t o known (omega arith) (omega arith) in
-    record { expr = _; spelled = conditional q k xs ys (zs ++ t ∷ some_name t.place ∷ []) a b s.expr (omega arith) d f g h s.spelled
-        (ap (λ z. z ++ t ∷ some_name t.place ∷ []) parts ∙ (append_assoc xs (q ∷ (ys ++ k ∷ zs)) (t ∷ some_name t.place ∷ []) ∙ ap (λ z. xs ++ q ∷ z) (append_assoc ys (k ∷ zs) (t ∷ some_name t.place ∷ [])))) refl }
+    record {
+      expr = _;
+      spelled = conditional q k xs ys (zs ++ t ∷ some_name t.place ∷ []) a b s.expr (omega arith) d f g h s.spelled
+          (ap (λ z. z ++ t ∷ some_name t.place ∷ []) parts ∙ (append_assoc xs (q ∷ (ys ++ k ∷ zs)) (t ∷ some_name t.place ∷ []) ∙ ap (λ z. xs ++ q ∷ z) (append_assoc ys (k ∷ zs) (t ∷ some_name t.place ∷ [])))) refl;
+    }
 
 -- behind `?`
 unfoldable pub questioned : Lexeme → List Lexeme
@@ -93,8 +99,11 @@ after_question {ls = ls} {x = x} (unary m p us u top a b c d) t asks = asks_behi
 after_question {ls = ls} {x = x} (binary m p xs ys a b top c d f parts g) t asks = asks_behind t ls x asks (binary m p xs ys a b (some_level p) c d f parts g)
 after_question {ls = ls} {x = x} (conditional q k xs ys zs a b c none d f g h i parts m) t asks =
     let s = after_question i t asks in
-    record { expr = _; spelled = conditional q k xs ys (zs ++ questioned t) a b s.expr refl d f g h s.spelled
-        (ap (λ z. z ++ questioned t) parts ∙ (append_assoc xs (q ∷ (ys ++ k ∷ zs)) (questioned t) ∙ ap (λ z. xs ++ q ∷ z) (append_assoc ys (k ∷ zs) (questioned t)))) refl }
+    record {
+      expr = _;
+      spelled = conditional q k xs ys (zs ++ questioned t) a b s.expr refl d f g h s.spelled
+          (ap (λ z. z ++ questioned t) parts ∙ (append_assoc xs (q ∷ (ys ++ k ∷ zs)) (questioned t) ∙ ap (λ z. xs ++ q ∷ z) (append_assoc ys (k ∷ zs) (questioned t)))) refl;
+    }
 
 -- behind the `[` of a name
 unfoldable pub selected : Lexeme → List Lexeme
@@ -115,9 +124,15 @@ after_open {ls = ls} (unary m p us u top a b parts d) opens level t marks low =
     record { expr = _; spelled = unary m p (us ++ selected t) s.expr (omega arith) a s.spelled (ap (λ z. z ++ selected t) parts) refl }
 after_open {ls = ls} (binary m p xs ys a b top c d f parts g) opens level t marks low =
     let s = after_open f (sym (open-Binary (start ls) p a b) ∙ (sym (ap ends_open g) ∙ opens)) (level_of p + 1) t marks (omega arith) in
-    record { expr = _; spelled = binary m p xs (ys ++ selected t) a s.expr (omega arith) c d s.spelled
-        (ap (λ z. z ++ selected t) parts ∙ append_assoc xs (m ∷ ys) (selected t)) refl }
+    record {
+      expr = _;
+      spelled = binary m p xs (ys ++ selected t) a s.expr (omega arith) c d s.spelled
+          (ap (λ z. z ++ selected t) parts ∙ append_assoc xs (m ∷ ys) (selected t)) refl;
+    }
 after_open {ls = ls} (conditional q k xs ys zs a b c none d f g h i parts m) opens level t marks low =
     let s = after_open i (sym (open-Conditional (start ls) a b c) ∙ (sym (ap ends_open m) ∙ opens)) 0 t marks (omega arith) in
-    record { expr = _; spelled = conditional q k xs ys (zs ++ selected t) a b s.expr (omega arith) d f g h s.spelled
-        (ap (λ z. z ++ selected t) parts ∙ (append_assoc xs (q ∷ (ys ++ k ∷ zs)) (selected t) ∙ ap (λ z. xs ++ q ∷ z) (append_assoc ys (k ∷ zs) (selected t)))) refl }
+    record {
+      expr = _;
+      spelled = conditional q k xs ys (zs ++ selected t) a b s.expr (omega arith) d f g h s.spelled
+          (ap (λ z. z ++ selected t) parts ∙ (append_assoc xs (q ∷ (ys ++ k ∷ zs)) (selected t) ∙ ap (λ z. xs ++ q ∷ z) (append_assoc ys (k ∷ zs) (selected t)))) refl;
+    }

@@ -50,7 +50,12 @@ impl<F: Fn(Global, &mut Cursor<'_>, usize, u8) -> Result<Measured, Stuck>> Gramm
 
     /// [ ":" expr ] "]" behind a name, "[" and an expression
     #[tactic(auto, unfolding(crate::specs::Exprs::select, crate::specs::Exprs::select_by, crate::specs::Exprs::within), using(vlog_tree::proofs::DepthLemmas::depths))]
-    fn select(&self, cursor: &mut Cursor<'_>, place: Place, name: Seq<u8>) -> Result<Measured, Stuck>
+    fn select(
+        &self,
+        cursor: &mut Cursor<'_>,
+        place: Place,
+        name: Seq<u8>,
+    ) -> Result<Measured, Stuck>
         requires nests { Nests self.now.room (F.pre self.now.expr) (F.post self.now.expr) }
         ensures value { Reads (spec.select self.now.room (spec.expr self.now.room) place name cursor.old) result cursor.new }
         ensures within { IfOk result (λ x. depth x ≤ self.now.room + 1) }
@@ -102,7 +107,12 @@ impl<F: Fn(Global, &mut Cursor<'_>, usize, u8) -> Result<Measured, Stuck>> Gramm
 
     /// expr { "," expr } "}" "}", behind the count of a replication
     #[tactic(auto, unfolding(crate::specs::Exprs::repeat), using(vlog_tree::proofs::DepthLemmas::depths))]
-    fn repeat(&self, cursor: &mut Cursor<'_>, place: Place, count: Measured) -> Result<Measured, Stuck>
+    fn repeat(
+        &self,
+        cursor: &mut Cursor<'_>,
+        place: Place,
+        count: Measured,
+    ) -> Result<Measured, Stuck>
         requires nests { Nests self.now.room (F.pre self.now.expr) (F.post self.now.expr) }
         requires within { depth count ≤ self.now.room }
         ensures value { Reads (spec.repeat self.now.room (spec.expr self.now.room) place count cursor.old) result cursor.new }
@@ -119,7 +129,12 @@ impl<F: Fn(Global, &mut Cursor<'_>, usize, u8) -> Result<Measured, Stuck>> Gramm
 
     /// { "," expr } "}", behind the first member
     #[tactic(auto, unfolding(crate::specs::Exprs::concat), using(vlog_tree::proofs::DepthLemmas::depths))]
-    fn concat(&self, cursor: &mut Cursor<'_>, place: Place, first: Measured) -> Result<Measured, Stuck>
+    fn concat(
+        &self,
+        cursor: &mut Cursor<'_>,
+        place: Place,
+        first: Measured,
+    ) -> Result<Measured, Stuck>
         requires nests { Nests self.now.room (F.pre self.now.expr) (F.post self.now.expr) }
         requires within { depth first ≤ self.now.room }
         ensures value { Reads (spec.concat self.now.room (spec.expr self.now.room) place first cursor.old) result cursor.new }
@@ -217,7 +232,12 @@ impl<F: Fn(Global, &mut Cursor<'_>, usize, u8) -> Result<Measured, Stuck>> Gramm
 
     /// "?" expr ":" expr, behind the test
     #[tactic(auto, unfolding(crate::specs::Exprs::choice), using(vlog_tree::proofs::DepthLemmas::depths))]
-    fn choice(&self, cursor: &mut Cursor<'_>, place: Place, test: Measured) -> Result<Measured, Stuck>
+    fn choice(
+        &self,
+        cursor: &mut Cursor<'_>,
+        place: Place,
+        test: Measured,
+    ) -> Result<Measured, Stuck>
         requires nests { Nests self.now.room (F.pre self.now.expr) (F.post self.now.expr) }
         requires within { depth test ≤ self.now.room }
         ensures value { Reads (spec.choice self.now.room (spec.expr self.now.room) place test cursor.old) result cursor.new }
@@ -243,7 +263,13 @@ impl<F: Fn(Global, &mut Cursor<'_>, usize, u8) -> Result<Measured, Stuck>> Gramm
 
     /// What stands behind the first operand, from left to right.
     #[tactic(auto, unfolding(crate::specs::Exprs::climb, crate::specs::Exprs::step_by), using(vlog_tree::proofs::DepthLemmas::depths))]
-    fn climb(&self, cursor: &mut Cursor<'_>, level: u8, place: Place, first: Measured) -> Result<Measured, Stuck>
+    fn climb(
+        &self,
+        cursor: &mut Cursor<'_>,
+        level: u8,
+        place: Place,
+        first: Measured,
+    ) -> Result<Measured, Stuck>
         requires nests { Nests self.now.room (F.pre self.now.expr) (F.post self.now.expr) }
         requires within { depth first ≤ self.now.room + 1 }
         ensures value { Reads (spec.climb self.now.room (spec.expr self.now.room) (self.now.room + 2) level place first cursor.old) result cursor.new }

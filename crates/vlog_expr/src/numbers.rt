@@ -193,13 +193,7 @@ fn z_before(digits: &[u8]) -> u128
 {
     match digits {
         [] => 0,
-        [d, ..] => {
-            if is_z(*d) {
-                u128::MAX
-            } else {
-                0
-            }
-        }
+        [d, ..] => { if is_z(*d) { u128::MAX } else { 0 } }
     }
 }
 
@@ -325,12 +319,6 @@ pub(crate) fn settled_in(text: &[u8]) -> Option<Number>
 {
     match text {
         [] => None,
-        [_, ..] => {
-            if has_x(text) {
-                None
-            } else {
-                number_in(text)
-            }
-        }
+        [_, ..] => { if has_x(text) { None } else { number_in(text) } }
     }
 }

@@ -123,13 +123,7 @@ pub(crate) fn part_of(mark: &[u8]) -> Option<Part>
 {
     match mark {
         [] => None,
-        [a] => {
-            if *a == b':' {
-                Some(Part::Fixed)
-            } else {
-                None
-            }
-        }
+        [a] => { if *a == b':' { Some(Part::Fixed) } else { None } }
         [a, b] => {
             if *b != b':' {
                 None

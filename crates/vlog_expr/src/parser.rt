@@ -52,12 +52,7 @@ fn last_of(bytes: &[u8], places: &[Place], tokens: &[Token]) -> Option<Token>
 
 /// The token in front is refused by name.
 #[tactic(auto, unfolding(crate::specs::Begins::refusal))]
-fn refuses(
-    bytes: &[u8],
-    places: &[Place],
-    pre: &[Token],
-    token: Token,
-) -> bool
+fn refuses(bytes: &[u8], places: &[Place], pre: &[Token], token: Token) -> bool
     requires before { AreWithin (length bytes.now) pre.now }
     requires order { token.from < token.to }
     requires within { token.to ≤ length bytes.now }

@@ -122,19 +122,28 @@ fn digits_in<'t>(kind: Kind, bytes: &'t [u8]) -> &'t [u8]
 pub(crate) fn is_refused_alone(kind: Kind, bytes: &[u8]) -> bool
     ensures { result ≡ (spec.is_refused_word (word_in kind bytes.now) || list_any is_x (digits_in kind bytes.now) || list_any is_z (digits_in kind bytes.now) || bytes_eq (mark_in kind bytes.now) (codes "#")) }
 {
-    is_refused_word(word_in(kind, bytes)) || has_x(digits_in(kind, bytes)) || has_z(digits_in(kind, bytes)) || mark_in(kind, bytes) == b"#".as_slice()
+    is_refused_word(word_in(kind, bytes))
+        || has_x(digits_in(kind, bytes))
+        || has_z(digits_in(kind, bytes))
+        || mark_in(kind, bytes) == b"#".as_slice()
 }
 
 /// `[` or `=` behind such a token.
 pub(crate) fn is_refused_behind(before: Kind, word: &[u8], kind: Kind, bytes: &[u8]) -> bool
     ensures { result ≡ (spec.is_free_word (word_in before word.now) && (bytes_eq (mark_in kind bytes.now) (codes "[") || bytes_eq (mark_in kind bytes.now) (codes "="))) }
 {
-    is_free_word(word_in(before, word)) && (mark_in(kind, bytes) == b"[".as_slice() || mark_in(kind, bytes) == b"=".as_slice())
+    is_free_word(word_in(before, word))
+        && (mark_in(kind, bytes) == b"[".as_slice() || mark_in(kind, bytes) == b"=".as_slice())
 }
 
 /// The token is refused by name, behind the one before it.
 #[tactic(auto, unfolding(vlog_tree::specs::Refused::is_refused, vlog_tree::specs::Refused::is_refused_alone, vlog_tree::specs::Refused::is_refused_behind, vlog_tree::specs::Numbers::has_x, vlog_tree::specs::Numbers::has_z, vlog_tree::specs::Lexemes::is_mark, vlog_tree::specs::Lexemes::lexeme))]
-pub(crate) fn is_refused(bytes: &[u8], places: &[Place], before: Option<Token>, token: Token) -> bool
+pub(crate) fn is_refused(
+    bytes: &[u8],
+    places: &[Place],
+    before: Option<Token>,
+    token: Token,
+) -> bool
     requires order { token.from ≤ token.to }
     requires within { token.to ≤ length bytes.now }
     requires behind { IfSome before (λ t. (t.from ≤ t.to) × (t.to ≤ length bytes.now)) }
@@ -143,6 +152,7 @@ pub(crate) fn is_refused(bytes: &[u8], places: &[Place], before: Option<Token>, 
     let text = bytes_of(bytes, token);
     match before {
         None => is_refused_alone(token.kind, text),
-        Some(other) => is_refused_alone(token.kind, text) || is_refused_behind(other.kind, bytes_of(bytes, other), token.kind, text),
+        Some(other) => is_refused_alone(token.kind, text)
+            || is_refused_behind(other.kind, bytes_of(bytes, other), token.kind, text),
     }
 }

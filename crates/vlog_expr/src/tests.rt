@@ -318,7 +318,10 @@ fn expressions_are_read(rt: HostRuntime) -> Result<(), Fail> {
         ("{a, {b, c}}", "({} a ({} b c)) 9"),
         ("{W{1'b0}}", "({{}} W 1u0) 6"),
         ("~{a, b}", "(~ ({} a b)) 6"),
-        ("{a[0], b[1:0]} == 3'd5", "(== ({} ([] a 32s0) (: b 32s1 32s0)) 3u5) 15"),
+        (
+            "{a[0], b[1:0]} == 3'd5",
+            "(== ({} ([] a 32s0) (: b 32s1 32s0)) 3u5) 15",
+        ),
         ("a b", "a 1"),
         ("a)", "a 1"),
         ("a + b ; c", "(+ a b) 3"),
@@ -402,7 +405,12 @@ fn count_of(alloc: Global, bytes: &[u8]) -> Result<String, AllocError> {
 
 #[test]
 fn depth_is_bounded(rt: HostRuntime) -> Result<(), Fail> {
-    for (pairs, want) in [(240, "481"), (254, "509"), (255, "TooDeep 1:254"), (256, "TooDeep 1:254")] {
+    for (pairs, want) in [
+        (240, "481"),
+        (254, "509"),
+        (255, "TooDeep 1:254"),
+        (256, "TooDeep 1:254"),
+    ] {
         let text = nested(rt.alloc(), pairs)?;
         let got = count_of(rt.alloc(), text.as_slice())?;
         assert_eq!(rt; got.as_str(), want, "at {pairs}");

@@ -22,7 +22,7 @@ returns-in-Ok-clause-value c =
     let ls = lexemes c.args.bytes.now c.args.places.now c.args.ahead.now in
     let read = ap (expr 255 0) (sym c.new-cursor.ensures) ∙ c.in-Ok.ensures.value in
     let count : length ls - length c.expr.new.cursor ≡ length c.args.ahead.now - c.left.result =
-        omega (arith, c.left.ensures, length-map c.args.ahead.now (lexeme c.args.bytes.now c.args.places.now)) in
+    omega (arith, c.left.ensures, length-map c.args.ahead.now (lexeme c.args.bytes.now c.args.places.now)) in
     subst (λ n. IsAnswer ls c.into_expr.result n) count (subst (λ x. IsAnswer ls x (length ls - length c.expr.new.cursor)) (sym c.into_expr.ensures) (answered ls c.expr.new.cursor c.in-Ok.found read))
 
 pub returns-in-Ok-clause-complete : goal.returns-in-Ok-clause-complete

@@ -16,10 +16,10 @@ pub returns-in_err-found-clause-cause : goal.returns-in_err-found-clause-cause
 returns-in_err-found-clause-cause c =
     let same = same_lexemes c.args.text.now.bytes c.as_slice.result.now c.args.text.now.places c.as_slice-2.result.now c.args.tokens.now c.split_at.result.1.now c.args.from c.as_slice.ensures c.as_slice-2.ensures c.split_at.ensures.back in
     let end : place_at c.as_slice-2.result.now (length c.as_slice.result.now) ≡ place_at c.args.text.now.places (length c.args.text.now.bytes) =
-        ap (λ p. place_at p (length c.as_slice.result.now)) c.as_slice-2.ensures ∙ ap (λ b. place_at c.args.text.now.places (length b)) c.as_slice.ensures in
+    ap (λ p. place_at p (length c.as_slice.result.now)) c.as_slice-2.ensures ∙ ap (λ b. place_at c.args.text.now.places (length b)) c.as_slice.ensures in
     let p = err_from_is_err_and c.from_residual.result c.from_residual.ensures.1 in
     rw (p.1, p.2) (subst (λ z. IsFault (place_at c.args.text.now.places (length c.args.text.now.bytes)) z c.in_err-found.field-0.0) same
-        (subst (λ e. IsFault e (lexemes c.as_slice.result.now c.as_slice-2.result.now c.split_at.result.1.now) c.in_err-found.field-0.0) end c.in_err-found.ensures.cause))
+    (subst (λ e. IsFault e (lexemes c.as_slice.result.now c.as_slice-2.result.now c.split_at.result.1.now) c.in_err-found.field-0.0) end c.in_err-found.ensures.cause))
 
 pub returns-clause-complete : goal.returns-clause-complete
 returns-clause-complete c = λ x count a.

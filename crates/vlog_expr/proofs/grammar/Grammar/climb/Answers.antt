@@ -20,8 +20,11 @@ operators-preserved g c =
     let turn : suc (kept.0 - 1) ≡ kept.0 = omega arith in
     let step = one_more room (expr room) (kept.0 - 1) c.args.level c.args.place c.operators.left c.in-Operator.op c.in_ok-right-in-Operator.right c.operators.cursor c.right.new.cursor next within c.in_ok-right-in-Operator.ensures.value in
     let deep : depth c.in_ok-left-in-Operator.left ≡ 1 + max (depth c.operators.left) (depth c.in_ok-right-in-Operator.right) =
-        ap depth c.in_ok-left-in-Operator.ensures ∙ depth-Binary c.args.place c.in-Operator.op c.operators.left c.in_ok-right-in-Operator.right in
-    let shallow : depth c.in_ok-right-in-Operator.right ≤ room = c.in_ok-right-in-Operator.ensures.within in
-    (kept.0 - 1, omega arith, omega arith,
-     ap (λ x. climb room (expr room) (kept.0 - 1) c.args.level c.args.place x c.right.new.cursor) c.in_ok-left-in-Operator.ensures
-     ∙ (sym step ∙ (ap (λ n. climb room (expr room) n c.args.level c.args.place c.operators.left c.operators.cursor) turn ∙ kept.3)))
+    ap depth c.in_ok-left-in-Operator.ensures ∙ depth-Binary c.args.place c.in-Operator.op c.operators.left c.in_ok-right-in-Operator.right in
+    let shallow : depth c.in_ok-right-in-Operator.right ≤ room = c.in_ok-right-in-Operator.ensures.within in (
+      kept.0 - 1,
+      omega arith,
+      omega arith,
+      ap (λ x. climb room (expr room) (kept.0 - 1) c.args.level c.args.place x c.right.new.cursor) c.in_ok-left-in-Operator.ensures
+          ∙ (sym step ∙ (ap (λ n. climb room (expr room) n c.args.level c.args.place c.operators.left c.operators.cursor) turn ∙ kept.3)),
+    )

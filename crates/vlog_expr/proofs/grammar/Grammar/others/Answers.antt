@@ -20,9 +20,9 @@ returns-in_err-next-clause-value g c =
     let turn : suc (kept.0 - 1) ≡ kept.0 = omega arith in
     let p = err_from_is_err_and c.from_residual.result c.from_residual.ensures.1 in
     rw (p.1, p.2) (λ fresh.
-        let read : expr room 0 (drop 1 c.members.cursor) ≡ (Err c.in_err-next.field-0.0, c.inner.new.cursor) = ap (expr room 0) (sym c.advance.ensures) ∙ c.in_err-next.ensures.value fresh in
-        kept.5 ∙ (ap (λ n. behind kept.1 (others_from room (expr room) n c.members.cursor)) (sym turn)
-        ∙ broken_other room (expr room) (kept.0 - 1) c.members.cursor kept.1 c.in_err-next.field-0.0 c.inner.new.cursor seen read))
+    let read : expr room 0 (drop 1 c.members.cursor) ≡ (Err c.in_err-next.field-0.0, c.inner.new.cursor) = ap (expr room 0) (sym c.advance.ensures) ∙ c.in_err-next.ensures.value fresh in
+    kept.5 ∙ (ap (λ n. behind kept.1 (others_from room (expr room) n c.members.cursor)) (sym turn)
+    ∙ broken_other room (expr room) (kept.0 - 1) c.members.cursor kept.1 c.in_err-next.field-0.0 c.inner.new.cursor seen read))
 
 pub members-smaller : goal.members-smaller
 members-smaller g c =
@@ -44,9 +44,11 @@ members-preserved g c =
     let deep = ap (deepest_of depth) more ∙ deepest-append c.members.found (c.in_ok-next.next ∷ []) in
     let last = deepest-cons c.in_ok-next.next [] in
     let nil = deepest-nil in
-    let shallow : depth c.in_ok-next.next ≤ room = c.in_ok-next.ensures.within in
-    (kept.0 - 1, kept.1 ++ c.in_ok-next.next ∷ [],
-     omega (arith, ap length c.advance.ensures, length-drop 1 c.members.cursor),
-     omega arith,
-     more ∙ (ap (λ found. found ++ c.in_ok-next.next ∷ []) kept.4 ∙ append_assoc c.args.found.now kept.1 (c.in_ok-next.next ∷ [])),
-     kept.5 ∙ (ap (λ n. behind kept.1 (others_from room (expr room) n c.members.cursor)) (sym turn) ∙ step))
+    let shallow : depth c.in_ok-next.next ≤ room = c.in_ok-next.ensures.within in (
+      kept.0 - 1,
+      kept.1 ++ c.in_ok-next.next ∷ [],
+      omega (arith, ap length c.advance.ensures, length-drop 1 c.members.cursor),
+      omega arith,
+      more ∙ (ap (λ found. found ++ c.in_ok-next.next ∷ []) kept.4 ∙ append_assoc c.args.found.now kept.1 (c.in_ok-next.next ∷ [])),
+      kept.5 ∙ (ap (λ n. behind kept.1 (others_from room (expr room) n c.members.cursor)) (sym turn) ∙ step),
+    )
