@@ -1,0 +1,11 @@
+//! Constant expressions of Verilog: their widths, their signs and their values.
+#![tactic(auto)]
+
+mod env;
+mod shape;
+mod value;
+mod whole;
+
+pub use env::Env;
+pub use shape::{Family, Shape};
+pub use value::{ConstFault, ConstValue};
