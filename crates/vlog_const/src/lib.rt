@@ -5,6 +5,7 @@ mod env;
 mod shape;
 mod value;
 mod whole;
+mod words;
 
 pub use env::Env;
 pub use shape::{Family, Shape};
