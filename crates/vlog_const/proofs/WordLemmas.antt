@@ -1,6 +1,7 @@
 -- Sums, products and shifts of 128 bits, cut to fewer.
-use Rattle.std.proofs.Common.{◌≡◌, ℕ, zero, suc, ◌+◌, ◌-◌, ◌*◌, ◌/◌, ◌%◌, ◌^◌, ◌<◌, ◌≤◌, refl, sym, ap, ◌∙◌, arith}
+use Rattle.std.proofs.Common.{◌≡◌, ℕ, zero, suc, ◌+◌, ◌-◌, ◌*◌, ◌/◌, ◌%◌, ◌^◌, ◌<◌, ◌≤◌, nat_le, false, refl, sym, ap, ◌∙◌, arith}
 use Rattle.std.proofs.lemmas.Nat.{and_mask, pow_pos, pow-add, one_shl}
+use Rattle.std.proofs.lemmas.Bool.Decides.{nat_tests}
 use Rattle.std.proofs.Math.Pow.{mod-mod-pow, pow_mono}
 use Rattle.std.proofs.Math.Nat.{mul_left_comm, mul-mod_right, div-eq_of_lt}
 
@@ -21,4 +22,14 @@ shifted_out w a n h =
 pub shifted_off : (a n : ℕ) → a < 2 ^ 128 → 128 ≤ n → a / 2 ^ n ≡ 0
 shifted_off a n h e = div-eq_of_lt (omega (arith, pow_mono {i = 128} {j = n} e))
 
-pub ruleset word_steps = (low-low, and_mask, shifted_out, shifted_off, one_shl)
+-- nothing stands above a width that is no less
+pub no_fill : (w wider : ℕ) → wider ≤ w → 2 ^ wider - 2 ^ w ≡ 0
+no_fill w wider h = omega (arith, pow_mono {i = wider} {j = w} h)
+
+-- a number of 128 bits is below any higher bit
+pub no_top : (k a : ℕ) → a < 2 ^ 128 → 128 ≤ k → nat_le (2 ^ k) a ≡ false
+no_top k a h e =
+    let above : a < 2 ^ k = omega (arith, pow_mono {i = 128} {j = k} e) in
+    grind (arith, nat_tests)
+
+pub ruleset word_steps = (low-low, and_mask, shifted_out, shifted_off, one_shl, no_fill, no_top)

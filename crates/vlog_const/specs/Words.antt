@@ -58,7 +58,7 @@ remainder c a b = with_sign (is_negative c.signed c.width a) c.width (magnitude 
 
 unfoldable pub arithmetic : Binary → Shape → ℕ → ℕ → ℕ
 arithmetic binary.Add c a b = low c.width (a + b)
-arithmetic binary.Subtract c a b = low c.width (a + (inverted c.width b + 1))
+arithmetic binary.Subtract c a b = low c.width (a + negated c.width b)
 arithmetic binary.Multiply c a b = low c.width (a * b)
 arithmetic binary.Divide c a b = quotient c a b
 arithmetic binary.Remainder c a b = remainder c a b

@@ -2,7 +2,10 @@
 #![tactic(auto)]
 
 mod env;
+mod operand;
+mod operators;
 mod shape;
+mod term;
 mod value;
 mod whole;
 mod words;

@@ -1,11 +1,11 @@
 //! Numbers modulo a power of 2, as the lowest bits of a `u128`.
-ghost use Rattle.std.specs.Prelude.{◌≡◌, ◌-◌, ◌*◌, ◌/◌, ◌^◌, ◌≤◌};
+ghost use Rattle.std.specs.Prelude.{◌≡◌, nat_le, ◌-◌, ◌*◌, ◌/◌, ◌^◌, ◌≤◌};
 ghost use Rattle.vlog_const.specs.Words.{low, inverted, negated, is_negative, magnitude, with_sign, extended};
 
 use crate::shape::Shape;
 
 /// As many ones.
-fn ones(width: u32) -> u128
+pub(crate) fn ones(width: u32) -> u128
     requires { width ≤ 128 }
     ensures { result ≡ 2 ^ width - 1 }
 {
@@ -45,11 +45,18 @@ pub(crate) fn negated(width: u32, a: u128) -> u128
 /// Whether the top bit of a signed number is 1.
 #[tactic(auto, unfolding(crate::specs::Words::is_negative))]
 pub(crate) fn is_negative(signed: bool, width: u32, a: u128) -> bool
-    requires { width ≤ 128 }
     ensures { result ≡ is_negative signed width a }
 {
-    let half = 1u128 << width.saturating_sub(1);
-    signed && half <= a
+    signed && reaches_top(width, a)
+}
+
+/// Whether the top bit is 1.
+#[tactic(auto, using(crate::proofs::WordLemmas::word_steps))]
+fn reaches_top(width: u32, a: u128) -> bool
+    ensures { result ≡ nat_le (2 ^ (width - 1)) a }
+{
+    let place = width.saturating_sub(1);
+    place < 128 && (1u128 << place) <= a
 }
 
 /// How far a number is from 0.
@@ -75,20 +82,22 @@ pub(crate) fn with_sign(negative: bool, width: u32, a: u128) -> u128
 }
 
 /// The bits from `width` up to `wider`.
-#[tactic(auto, using(std::proofs::lemmas::Nat::pow_pos))]
+#[tactic(auto, using(crate::proofs::WordLemmas::word_steps))]
 fn fill(width: u32, wider: u32) -> u128
-    requires own { width ≤ 128 }
-    requires whole { wider ≤ 128 }
+    requires { wider ≤ 128 }
     ensures { result ≡ 2 ^ wider - 2 ^ width }
 {
-    ones(wider).saturating_sub(ones(width))
+    if width < wider {
+        ones(wider).saturating_sub(ones(width))
+    } else {
+        0
+    }
 }
 
 /// Bits of some width in a context.
 #[tactic(auto, using(crate::proofs::WordLemmas::word_steps), unfolding(crate::specs::Words::extended))]
 pub(crate) fn extended(width: u32, context: Shape, a: u128) -> u128
-    requires own { width ≤ 128 }
-    requires whole { context.width ≤ 128 }
+    requires { context.width ≤ 128 }
     ensures { result ≡ extended width context a }
 {
     if is_negative(context.signed, width, a) {
