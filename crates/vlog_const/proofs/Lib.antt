@@ -1,3 +1,4 @@
 pub mod NameLemmas
 pub mod WordLemmas
 pub mod PowerLemmas
+pub mod SelectLemmas

@@ -7,7 +7,7 @@
 --     window bits start n          the n positions from `start` up, those outside the bits 0
 --     worth values e               an expression by itself
 --     value_of values e, value_within values w e        its value alone, and in a context of at least w bits
-use Rattle.std.specs.Prelude.{ℕ, zero, suc, ◌+◌, ◌-◌, ◌*◌, ◌/◌, ◌^◌, max, Bool, true, false, not, ◌&&◌, ◌==◌, nat_lt, nat_le, if◌then◌else◌, List, [], ◌∷◌, map, Option, Some, None, Result, Ok, Err}
+use Rattle.std.specs.Prelude.{ℕ, zero, suc, ◌+◌, ◌-◌, ◌*◌, ◌/◌, ◌^◌, min, max, Bool, true, false, not, ◌&&◌, ◌==◌, nat_lt, nat_le, if◌then◌else◌, List, [], ◌∷◌, map, Option, Some, None, Result, Ok, Err}
 use Rattle.rdc_outside.specs.declared.source.Place.{Place}
 use Rattle.vlog_tree.specs.declared.expr.Expr.{Expr, fold-Expr}
 use Rattle.vlog_tree.specs.declared.expr.Expr.TheOpen.{Expr-F}
@@ -113,6 +113,10 @@ lowered a k =
     else (if nat_le k a.magnitude then record { negative = false; magnitude = a.magnitude - k }
     else record { negative = true; magnitude = k - a.magnitude })
 
+-- a number as far as 128 bits go
+abbrev pub capped : Whole → Whole
+capped a = record { negative = a.negative; magnitude = min a.magnitude (2 ^ 128 - 1) }
+
 -- how many a count is; a negative one is none
 abbrev pub counted : Whole → ℕ
 counted n = if n.negative then 0 else n.magnitude
@@ -154,14 +158,20 @@ selected values place name = do
   a ← named values place name
   alone a
 
+-- { a, b }, where that has at most 128 bits
+unfoldable pub beside : Place → ConstValue → ConstValue → Or_fault ConstValue
+beside place a b = do
+  w ← narrow place (joined_shape (shape_of a) (shape_of b)).width
+  Ok (record { bits = low w (a.bits * 2 ^ b.width + b.bits); width = w; signed = false })
+
 -- members from left to right, the next one on the right of those so far
 unfoldable pub joined : Place → ConstValue → List (Or_fault Worth) → Or_fault ConstValue
 joined place so_far [] = Ok so_far
 joined place so_far (member ∷ members) = do
   a ← member
   v ← alone a
-  w ← narrow place (joined_shape (shape_of so_far) (shape_of v)).width
-  joined place (record { bits = low w (so_far.bits * 2 ^ v.width + v.bits); width = w; signed = false }) members
+  more ← beside place so_far v
+  joined place more members
 
 -- no bits
 abbrev pub nothing : ConstValue
@@ -242,12 +252,12 @@ binary_in Leading place op a b = do
 abbrev pub binary_worth : Place → Binary → Worth → Worth → Or_fault Worth
 binary_worth place op a b = binary_in (family_of op) place op a b
 
--- test ? a : b
-unfoldable pub choice_worth : Place → ConstValue → Worth → Worth → Worth
-choice_worth place test a b = record {
+-- test ? a : b, where the first is taken or not
+unfoldable pub choice_worth : Place → Bool → Worth → Worth → Worth
+choice_worth place first a b = record {
   place = place;
   shape = choice_shape a.shape b.shape;
-  value = λ c. a.value c >>= (λ x. b.value c >>= (λ y. Ok (if is_true test then x else y)));
+  value = λ c. a.value c >>= (λ x. b.value c >>= (λ y. Ok (if first then x else y)));
 }
 
 -- an expression by itself, from its parts
@@ -287,7 +297,7 @@ worth_by_parts values (Expr-F.Conditional place test left right) = do
   v ← alone t
   a ← left
   b ← right
-  Ok (choice_worth place v a b)
+  Ok (choice_worth place (is_true v) a b)
 
 -- an expression by itself
 unfoldable pub worth : Values → Expr → Or_fault Worth

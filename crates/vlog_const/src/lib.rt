@@ -4,6 +4,7 @@
 mod env;
 mod operand;
 mod operators;
+mod selects;
 mod shape;
 mod term;
 mod value;
