@@ -20,9 +20,9 @@ use Rattle.vlog_tree.specs.declared.operator.Binary.TheVariants as binary
 use Rattle.vlog_const.specs.declared.shape.Shape.{Shape}
 use Rattle.vlog_const.specs.declared.shape.Family.{Family}
 use Rattle.vlog_const.specs.declared.shape.Family.TheVariants.{Contextual, Compared, Alone, Leading}
-use Rattle.vlog_const.specs.declared.value.ConstValue.{ConstValue}
-use Rattle.vlog_const.specs.declared.value.ConstFault.{ConstFault}
-use Rattle.vlog_const.specs.declared.value.ConstFault.TheVariants.{NotConstant, TooWide, ZeroDivisor}
+use Rattle.vlog_const.specs.declared.answer.ConstValue.{ConstValue}
+use Rattle.vlog_const.specs.declared.answer.ConstFault.{ConstFault}
+use Rattle.vlog_const.specs.declared.answer.ConstFault.TheVariants.{NotConstant, TooWide, ZeroDivisor}
 use Rattle.vlog_const.specs.declared.whole.Whole.{Whole}
 use Rattle.vlog_const.specs.Names.{Values}
 use Rattle.vlog_const.specs.Widths.{bit, unsigned, common, operand_family, family_of, shape_in, left_in, right_in, choice_shape, joined_shape, repeated_shape, within}

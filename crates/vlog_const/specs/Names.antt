@@ -4,7 +4,7 @@
 use Rattle.std.specs.Prelude.{ℕ, if◌then◌else◌, List, Option, Some, None}
 use Rattle.std.specs.Str.{bytes_eq}
 use Rattle.std.specs.HashMap as hash
-use Rattle.vlog_const.specs.declared.value.ConstValue.{ConstValue}
+use Rattle.vlog_const.specs.declared.answer.ConstValue.{ConstValue}
 use Rattle.vlog_const.specs.declared.env.Env.{Env}
 
 -- what each name stands for

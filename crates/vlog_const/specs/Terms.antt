@@ -4,8 +4,8 @@
 --     GivesWorth, Gives    what a call answers: the value or the fault of a definition, or want of memory
 use Rattle.std.specs.Prelude.{◌≡◌, ◌⊎◌, ℕ, if◌then◌else◌, Result, Ok, Err}
 use Rattle.vlog_const.specs.declared.shape.Shape.{Shape}
-use Rattle.vlog_const.specs.declared.value.ConstFault.{ConstFault}
-use Rattle.vlog_const.specs.declared.value.ConstFault.TheVariants.{Memory}
+use Rattle.vlog_const.specs.declared.answer.ConstFault.{ConstFault}
+use Rattle.vlog_const.specs.declared.answer.ConstFault.TheVariants.{Memory}
 use Rattle.vlog_const.specs.declared.term.Term.{Term, fold-Term}
 use Rattle.vlog_const.specs.declared.term.Term.TheOpen.{Term-F}
 use Rattle.vlog_const.specs.declared.operand.Operand.{Operand}

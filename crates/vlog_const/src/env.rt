@@ -3,7 +3,7 @@ ghost use Rattle.std.specs.Prelude.{◌≡◌, OnOk};
 ghost use Rattle.std.specs.Option.{option_copied};
 ghost use Rattle.vlog_const.specs.Names.{no_values, with_value, values_of};
 
-use crate::value::ConstValue;
+use crate::answer::ConstValue;
 use std::alloc::{AllocError, Global};
 use std::collections::HashMap;
 

@@ -9,7 +9,7 @@ use crate::operators::{
 };
 use crate::shape::{Family, Shape};
 use crate::term::{Term, evaluated};
-use crate::value::{ConstFault, ConstValue};
+use crate::answer::{ConstFault, ConstValue};
 use crate::words::{is_negative, low};
 use rdc_outside::Place;
 use sqlite_items::Boxed;

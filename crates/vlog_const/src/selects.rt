@@ -6,7 +6,7 @@ ghost use Rattle.vlog_const.specs.Terms.{Answers, worth_of};
 
 use crate::operand::{Operand, fixed};
 use crate::shape::Shape;
-use crate::value::{ConstFault, ConstValue};
+use crate::answer::{ConstFault, ConstValue};
 use crate::whole::Whole;
 use crate::words::{is_negative, low, magnitude, shifted_left, shifted_right};
 use rdc_outside::Place;
@@ -197,6 +197,7 @@ pub(crate) fn repeat(
 }
 
 /// The lowest bits of the copies.
+#[tactic(auto, using(crate::proofs::SelectLemmas::moved_steps))]
 fn copies(count: u128, width: u32, bits: u128, all: u32) -> u128
     requires width { width ≤ 128 }
     requires all { all ≡ count * width }
@@ -207,10 +208,8 @@ fn copies(count: u128, width: u32, bits: u128, all: u32) -> u128
         return 0;
     }
     let mut so_far = 0;
-    let mut left = count;
-    'copies: while 0 < left {
+    for done in 0..count {
         so_far = moved(all, so_far, width, bits);
-        left -= 1;
     }
     so_far
 }

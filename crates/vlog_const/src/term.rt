@@ -5,7 +5,7 @@ ghost use Rattle.vlog_const.specs.Terms.{term_value};
 
 use crate::operators::{arithmetic, is_division, shifted, sized};
 use crate::shape::Shape;
-use crate::value::ConstFault;
+use crate::answer::ConstFault;
 use crate::words::extended;
 use rdc_outside::Place;
 use sqlite_items::Boxed;

@@ -27,7 +27,7 @@ pub enum ConstFault {
 
 impl From<AllocError> for ConstFault {
     ghost use Rattle.std.specs.Prelude.{◌≡◌};
-    ghost use Rattle.vlog_const.specs.declared.value.ConstFault.TheVariants.{Memory};
+    ghost use Rattle.vlog_const.specs.declared.answer.ConstFault.TheVariants.{Memory};
 
     ghost from_gives = { λ _ fault. fault ≡ Memory };
 
@@ -38,7 +38,7 @@ impl From<AllocError> for ConstFault {
 
 impl<T: Drop> From<AllocFailed<T>> for ConstFault {
     ghost use Rattle.std.specs.Prelude.{◌≡◌};
-    ghost use Rattle.vlog_const.specs.declared.value.ConstFault.TheVariants.{Memory};
+    ghost use Rattle.vlog_const.specs.declared.answer.ConstFault.TheVariants.{Memory};
 
     ghost from_gives = { λ _ fault. fault ≡ Memory };
 
