@@ -8,7 +8,6 @@ use Rattle.vlog_const.specs.Words.{low}
 use Rattle.vlog_const.specs.Constants.{capped, window, copies}
 use Rattle.vlog_const.proofs.WordLemmas.{low-low, shifted_out, shifted_off}
 
-
 -- far below and far above no bit is reached
 far : (bits : ℕ) (below : Bool) (m n : ℕ) → bits < 2 ^ 128 → n ≤ 128 → 128 ≤ m → window bits (record { negative = below; magnitude = m }) n ≡ 0
 unfolding window
@@ -38,4 +37,5 @@ copies-more n w bits all =
     ∙ mod-add-mod (copies n w bits * 2 ^ w) (2 ^ all) bits)
 
 pub ruleset select_steps = (window-capped)
+
 pub ruleset moved_steps = (low-low, moved-low, copies-more)

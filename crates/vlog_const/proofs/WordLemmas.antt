@@ -17,7 +17,7 @@ shifted_out w a n h =
     let e : w + (n - w) ≡ n = omega arith in
     let product : a * (2 ^ w * 2 ^ (n - w)) ≡ 2 ^ w * (a * 2 ^ (n - w)) = mul_left_comm a (2 ^ w) (2 ^ (n - w)) in
     rw (ap (λ (k : ℕ). (a * 2 ^ k) % 2 ^ w) (sym e) ∙ ap (λ (k : ℕ). (a * k) % 2 ^ w) (pow-add 2 w (n - w)) ∙ ap (λ (k : ℕ). k % 2 ^ w) product)
-      (mul-mod_right (2 ^ w) (a * 2 ^ (n - w)))
+    (mul-mod_right (2 ^ w) (a * 2 ^ (n - w)))
 
 pub shifted_off : (a n : ℕ) → a < 2 ^ 128 → 128 ≤ n → a / 2 ^ n ≡ 0
 shifted_off a n h e = div-eq_of_lt (omega (arith, pow_mono {i = 128} {j = n} e))

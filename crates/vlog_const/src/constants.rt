@@ -5,11 +5,11 @@ ghost use Rattle.vlog_const.specs.Widths.{unsigned};
 ghost use Rattle.vlog_const.specs.Constants.{fixed, is_true, joined, named, nothing, number, selected, value_of, value_within, worth};
 ghost use Rattle.vlog_const.specs.Terms.{Answers, worth_of};
 
+use crate::answer::{ConstFault, ConstValue};
 use crate::env::Env;
 use crate::operand::{Operand, binary, choice, fixed, settled, unary};
 use crate::selects::{beside, index, repeat, select};
 use crate::shape::Shape;
-use crate::answer::{ConstFault, ConstValue};
 use rdc_outside::Place;
 use std::alloc::Global;
 use vlog_tree::{Expr, Number};

@@ -4,12 +4,10 @@ ghost use Rattle.vlog_const.specs.Widths.{common};
 ghost use Rattle.vlog_const.specs.Constants.{alone, amount, binary_worth, choice_worth, fixed, in_context, narrow, settled, shape_of, unary_worth, truth};
 ghost use Rattle.vlog_const.specs.Terms.{Answers, worth_of};
 
-use crate::operators::{
-    compared, family, is_power, logical, operand_family, reduced,
-};
+use crate::answer::{ConstFault, ConstValue};
+use crate::operators::{compared, family, is_power, logical, operand_family, reduced};
 use crate::shape::{Family, Shape};
 use crate::term::{Term, evaluated};
-use crate::answer::{ConstFault, ConstValue};
 use crate::words::{is_negative, low};
 use rdc_outside::Place;
 use sqlite_items::Boxed;
@@ -181,7 +179,11 @@ pub(crate) fn binary(
         Family::Leading => {
             let count = amount(op, right.place, right.alone()?)?;
             let term = Term::Shift(op, Boxed::new(alloc, left.term)?, count);
-            Ok(Operand { place, shape: left.shape, term })
+            Ok(Operand {
+                place,
+                shape: left.shape,
+                term,
+            })
         }
     }
 }

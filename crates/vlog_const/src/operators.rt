@@ -104,7 +104,11 @@ fn quotient(context: Shape, a: u128, b: u128) -> u128
 {
     let Shape { width, signed } = context;
     let count = divide(magnitude(signed, width, a), magnitude(signed, width, b));
-    with_sign(differ(is_negative(signed, width, a), is_negative(signed, width, b)), width, count)
+    with_sign(
+        differ(is_negative(signed, width, a), is_negative(signed, width, b)),
+        width,
+        count,
+    )
 }
 
 /// `a % b`, with the sign of `a`.

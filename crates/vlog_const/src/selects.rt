@@ -4,9 +4,9 @@ ghost use Rattle.vlog_const.specs.Constants.{beside, capped, copies, counted, in
 ghost use Rattle.vlog_const.specs.Words.{low};
 ghost use Rattle.vlog_const.specs.Terms.{Answers, worth_of};
 
+use crate::answer::{ConstFault, ConstValue};
 use crate::operand::{Operand, fixed};
 use crate::shape::Shape;
-use crate::answer::{ConstFault, ConstValue};
 use crate::whole::Whole;
 use crate::words::{is_negative, low, magnitude, shifted_left, shifted_right};
 use rdc_outside::Place;
@@ -47,9 +47,15 @@ fn span(msb: Whole, lsb: Whole) -> u128
     ensures { result ≡ min (span msb lsb) (2 ^ 128 - 1) }
 {
     if msb.negative {
-        if lsb.negative { distance(lsb.magnitude, msb.magnitude) } else { 0 }
+        if lsb.negative {
+            distance(lsb.magnitude, msb.magnitude)
+        } else {
+            0
+        }
     } else if lsb.negative {
-        msb.magnitude.saturating_add(1).saturating_add(lsb.magnitude)
+        msb.magnitude
+            .saturating_add(1)
+            .saturating_add(lsb.magnitude)
     } else {
         distance(msb.magnitude, lsb.magnitude)
     }
@@ -60,13 +66,25 @@ fn span(msb: Whole, lsb: Whole) -> u128
 fn lowered(number: Whole, k: u128) -> Whole
     ensures { result ≡ capped (lowered number k) }
 {
-    let Whole { negative, magnitude } = number;
+    let Whole {
+        negative,
+        magnitude,
+    } = number;
     if negative {
-        Whole { negative: true, magnitude: magnitude.saturating_add(k) }
+        Whole {
+            negative: true,
+            magnitude: magnitude.saturating_add(k),
+        }
     } else if k <= magnitude {
-        Whole { negative: false, magnitude: magnitude - k }
+        Whole {
+            negative: false,
+            magnitude: magnitude - k,
+        }
     } else {
-        Whole { negative: true, magnitude: k - magnitude }
+        Whole {
+            negative: true,
+            magnitude: k - magnitude,
+        }
     }
 }
 
@@ -113,7 +131,10 @@ pub(crate) fn index(place: Place, value: ConstValue, index: ConstValue) -> Opera
     ensures value { worth_of result ≡ index_worth place value index }
     ensures bound { result.shape.width ≤ 128 }
 {
-    let bit = Shape { width: 1, signed: false };
+    let bit = Shape {
+        width: 1,
+        signed: false,
+    };
     fixed(place, bit, window(value.bits, whole(index), 1))
 }
 
@@ -139,7 +160,14 @@ pub(crate) fn select(
     }
     let width = count as u32;
     let bits = window(value.bits, part_start(part, from, to), width);
-    Ok(fixed(place, Shape { width, signed: false }, bits))
+    Ok(fixed(
+        place,
+        Shape {
+            width,
+            signed: false,
+        },
+        bits,
+    ))
 }
 
 /// The members so far with a further one on their right.
@@ -171,7 +199,10 @@ fn moved(width: u32, bits: u128, count: u32, more: u128) -> u128
     requires { width ≤ 128 }
     ensures { result ≡ low width (bits * 2 ^ count + more) }
 {
-    low(width, shifted_left(128, bits, count as u128).wrapping_add(more))
+    low(
+        width,
+        shifted_left(128, bits, count as u128).wrapping_add(more),
+    )
 }
 
 /// Copies of a value, side by side.
@@ -193,7 +224,14 @@ pub(crate) fn repeat(
     }
     let width = width as u32;
     let bits = copies(count, value.width, value.bits, width);
-    Ok(fixed(place, Shape { width, signed: false }, bits))
+    Ok(fixed(
+        place,
+        Shape {
+            width,
+            signed: false,
+        },
+        bits,
+    ))
 }
 
 /// The lowest bits of the copies.

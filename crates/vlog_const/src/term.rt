@@ -3,9 +3,9 @@ ghost use Rattle.std.specs.Prelude.{◌≡◌, ◌≤◌};
 ghost use Rattle.vlog_const.specs.Constants.{divided};
 ghost use Rattle.vlog_const.specs.Terms.{term_value};
 
+use crate::answer::ConstFault;
 use crate::operators::{arithmetic, is_division, shifted, sized};
 use crate::shape::Shape;
-use crate::answer::ConstFault;
 use crate::words::extended;
 use rdc_outside::Place;
 use sqlite_items::Boxed;

@@ -114,12 +114,7 @@ fn choose(alloc: Global, stack: &mut Vec<Expr>) -> Result<Expr, Fail> {
 }
 
 // What one step makes of the expressions so far.
-fn stepped(
-    alloc: Global,
-    place: Place,
-    step: Step,
-    stack: &mut Vec<Expr>,
-) -> Result<Expr, Fail> {
+fn stepped(alloc: Global, place: Place, step: Step, stack: &mut Vec<Expr>) -> Result<Expr, Fail> {
     let e = match step {
         Step::U(width, bits) => number(place, width, false, bits),
         Step::S(width, bits) => number(place, width, true, bits),
@@ -187,11 +182,13 @@ fn fault_shown(alloc: Global, fault: ConstFault) -> Result<String, AllocError> {
 fn shown(alloc: Global, answer: Result<ConstValue, ConstFault>) -> Result<String, AllocError> {
     match answer {
         Err(fault) => fault_shown(alloc, fault),
-        Ok(ConstValue {
-            bits,
-            width,
-            signed,
-        }) => {
+        Ok(
+            ConstValue {
+                bits,
+                width,
+                signed,
+            },
+        ) => {
             let sign = if signed { "s" } else { "u" };
             format!(in alloc; "{width}{sign}{bits}")
         }

@@ -13,6 +13,7 @@ use vlog_tree::Unary::{
 };
 
 const MOST: u128 = 340282366920938463463374607431768211455;
+
 const TOP: u128 = 170141183460469231731687303715884105728;
 
 const ARITHMETIC: [Row; 20] = [
@@ -31,19 +32,50 @@ const ARITHMETIC: [Row; 20] = [
     (&[S(8, 254), S(8, 3), Between(Power)], "8s248"),
     (&[U(8, 5), U(8, 0), Between(Power)], "8u1"),
     (&[U(128, MOST), U(128, 1), Between(Add)], "128u0"),
-    (&[U(128, 0), U(128, 1), Between(Subtract)], "128u340282366920938463463374607431768211455"),
+    (
+        &[U(128, 0), U(128, 1), Between(Subtract)],
+        "128u340282366920938463463374607431768211455",
+    ),
     (&[U(128, MOST), U(128, MOST), Between(Multiply)], "128u1"),
-    (&[S(128, TOP), S(128, MOST), Between(Divide)], "128s170141183460469231731687303715884105728"),
-    (&[U(128, 3), U(128, MOST), Between(Power)], "128u226854911280625642308916404954512140971"),
+    (
+        &[S(128, TOP), S(128, MOST), Between(Divide)],
+        "128s170141183460469231731687303715884105728",
+    ),
+    (
+        &[U(128, 3), U(128, MOST), Between(Power)],
+        "128u226854911280625642308916404954512140971",
+    ),
     (&[S(128, MOST), S(128, 2), Between(Divide)], "128s0"),
-    (&[U(4, 12), U(4, 10), Between(And), U(4, 1), Between(Or), U(4, 15), Between(Xor)], "4u6"),
+    (
+        &[
+            U(4, 12),
+            U(4, 10),
+            Between(And),
+            U(4, 1),
+            Between(Or),
+            U(4, 15),
+            Between(Xor),
+        ],
+        "4u6",
+    ),
 ];
 
 const SHIFTS: [Row; 14] = [
-    (&[S(4, 1), Before(Minus), U(1, 1), Between(ArithmeticShiftRight)], "4s15"),
+    (
+        &[
+            S(4, 1),
+            Before(Minus),
+            U(1, 1),
+            Between(ArithmeticShiftRight),
+        ],
+        "4s15",
+    ),
     (&[S(4, 8), S(32, 2), Between(ArithmeticShiftRight)], "4s14"),
     (&[S(4, 8), S(32, 4), Between(ArithmeticShiftRight)], "4s15"),
-    (&[S(4, 8), S(32, 200), Between(ArithmeticShiftRight)], "4s15"),
+    (
+        &[S(4, 8), S(32, 200), Between(ArithmeticShiftRight)],
+        "4s15",
+    ),
     (&[S(4, 7), S(32, 4), Between(ArithmeticShiftRight)], "4s0"),
     (&[U(4, 8), S(32, 2), Between(ArithmeticShiftRight)], "4u2"),
     (&[S(4, 8), S(32, 2), Between(ShiftRight)], "4s2"),
@@ -51,10 +83,28 @@ const SHIFTS: [Row; 14] = [
     (&[U(4, 9), U(8, 4), Between(ArithmeticShiftLeft)], "4u0"),
     // an amount has no sign, and stands by itself
     (&[U(8, 1), S(4, 15), Between(ShiftLeft)], "8u0"),
-    (&[U(16, 1), U(2, 3), U(2, 1), Between(Add), Between(ShiftLeft)], "16u1"),
-    (&[U(128, 1), U(8, 127), Between(ShiftLeft)], "128u170141183460469231731687303715884105728"),
-    (&[S(128, TOP), U(8, 127), Between(ArithmeticShiftRight)], "128s340282366920938463463374607431768211455"),
-    (&[S(4, 8), S(32, 1), Between(ArithmeticShiftRight), U(8, 0), Between(Or)], "8u4"),
+    (
+        &[U(16, 1), U(2, 3), U(2, 1), Between(Add), Between(ShiftLeft)],
+        "16u1",
+    ),
+    (
+        &[U(128, 1), U(8, 127), Between(ShiftLeft)],
+        "128u170141183460469231731687303715884105728",
+    ),
+    (
+        &[S(128, TOP), U(8, 127), Between(ArithmeticShiftRight)],
+        "128s340282366920938463463374607431768211455",
+    ),
+    (
+        &[
+            S(4, 8),
+            S(32, 1),
+            Between(ArithmeticShiftRight),
+            U(8, 0),
+            Between(Or),
+        ],
+        "8u4",
+    ),
 ];
 
 const TESTS: [Row; 28] = [
@@ -70,12 +120,21 @@ const TESTS: [Row; 28] = [
     (&[U(4, 5), U(8, 5), Between(CaseEqual)], "1u1"),
     (&[U(4, 5), U(8, 6), Between(CaseNotEqual)], "1u1"),
     // the operands of a comparison go together: 16 in 8 bits
-    (&[U(4, 15), U(4, 1), Between(Add), U(8, 16), Between(Equal)], "1u1"),
-    (&[U(4, 15), U(4, 1), Between(Add), U(4, 0), Between(Equal)], "1u1"),
+    (
+        &[U(4, 15), U(4, 1), Between(Add), U(8, 16), Between(Equal)],
+        "1u1",
+    ),
+    (
+        &[U(4, 15), U(4, 1), Between(Add), U(4, 0), Between(Equal)],
+        "1u1",
+    ),
     (&[U(8, 2), U(8, 0), Between(LogicalAnd)], "1u0"),
     (&[U(8, 2), U(4, 4), Between(LogicalAnd)], "1u1"),
     (&[U(8, 0), U(8, 0), Between(LogicalOr)], "1u0"),
-    (&[U(4, 15), U(4, 1), Between(Add), U(8, 0), Between(LogicalOr)], "1u0"),
+    (
+        &[U(4, 15), U(4, 1), Between(Add), U(8, 0), Between(LogicalOr)],
+        "1u0",
+    ),
     (&[U(4, 8), Before(Not)], "1u0"),
     (&[U(4, 15), Before(ReduceAnd)], "1u1"),
     (&[U(4, 7), Before(ReduceAnd)], "1u0"),
@@ -104,7 +163,16 @@ const SELECTS: [Row; 14] = [
     (&[S(4, 15), S(32, 3), Slice(b"a", Up)], "3u2"),
     (&[S(32, 7), S(32, 3), Slice(b"a", Down)], "3u5"),
     (&[S(32, 1), S(32, 4), Slice(b"a", Down)], "4u4"),
-    (&[S(32, 3), S(32, 0), Slice(b"s", Fixed), U(8, 0), Between(Add)], "8u13"),
+    (
+        &[
+            S(32, 3),
+            S(32, 0),
+            Slice(b"s", Fixed),
+            U(8, 0),
+            Between(Add),
+        ],
+        "8u13",
+    ),
 ];
 
 #[test]

@@ -22,7 +22,10 @@ const ALONE: [Row; 27] = [
     (&[Name(b"s"), S(8, 0), Between(Or)], "8s253"),
     // ~0 is 32 ones, and more in a wider context
     (&[S(32, 0), Before(Invert)], "32s4294967295"),
-    (&[S(32, 0), Before(Invert), U(40, 0), Between(Or)], "40u1099511627775"),
+    (
+        &[S(32, 0), Before(Invert), U(40, 0), Between(Or)],
+        "40u1099511627775",
+    ),
     (&[U(4, 0), Before(Invert), U(8, 0), Between(Or)], "8u255"),
     (&[U(4, 1), Before(Minus), U(8, 0), Between(Or)], "8u255"),
     (&[S(4, 8), Before(Plus)], "4s8"),
@@ -36,18 +39,33 @@ const ALONE: [Row; 27] = [
     // the left operand of a shift or a power gives the width and the sign
     (&[S(4, 3), U(8, 1), Between(ShiftLeft)], "4s6"),
     (&[U(4, 3), S(32, 2), Between(Power)], "4u9"),
-    (&[U(8, 255), U(8, 1), Between(Add), U(4, 1), Between(ShiftRight)], "8u0"),
+    (
+        &[
+            U(8, 255),
+            U(8, 1),
+            Between(Add),
+            U(4, 1),
+            Between(ShiftRight),
+        ],
+        "8u0",
+    ),
     // both sides of ?: have one width and one sign
     (&[U(1, 1), S(4, 15), S(8, 0), Choose], "8s255"),
     (&[U(1, 1), S(4, 15), U(8, 0), Choose], "8u15"),
-    (&[U(2, 2), U(4, 15), U(8, 0), Choose, U(4, 1), Between(And)], "8u1"),
+    (
+        &[U(2, 2), U(4, 15), U(8, 0), Choose, U(4, 1), Between(And)],
+        "8u1",
+    ),
 ];
 
 const JOINED: [Row; 10] = [
     (&[U(4, 10), U(4, 5), Join(2)], "8u165"),
     (&[S(4, 15), Join(1)], "4u15"),
     (&[S(32, 4), U(1, 1), Copy(1)], "4u15"),
-    (&[S(32, 4), U(1, 1), Copy(1), S(32, 15), Between(Equal)], "1u1"),
+    (
+        &[S(32, 4), U(1, 1), Copy(1), S(32, 15), Between(Equal)],
+        "1u1",
+    ),
     (&[S(32, 2), U(2, 1), U(1, 1), Copy(2)], "6u27"),
     // a count of 0, or below, gives no bits
     (&[S(32, 0), U(1, 1), Copy(1)], "0u0"),
@@ -55,7 +73,18 @@ const JOINED: [Row; 10] = [
     (&[U(4, 9), S(32, 0), U(1, 1), Copy(1), Join(2)], "4u9"),
     (&[S(32, 0), U(1, 1), Copy(1), U(4, 9), Between(Add)], "4u9"),
     // a member stands by itself
-    (&[U(4, 15), U(4, 1), Between(Add), U(4, 0), Join(2), U(16, 0), Between(Or)], "16u0"),
+    (
+        &[
+            U(4, 15),
+            U(4, 1),
+            Between(Add),
+            U(4, 0),
+            Join(2),
+            U(16, 0),
+            Between(Or),
+        ],
+        "16u0",
+    ),
 ];
 
 // in a context of 9 bits
