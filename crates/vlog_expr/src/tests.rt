@@ -1,12 +1,15 @@
 //! Expressions and their trees, worked by hand from the grammar.
 ghost use Rattle.std.specs.Prelude.{◌≡◌, ◌+◌, length, IfOk};
 
+mod marks;
+
 use crate::{ExprFault, parse_expr};
+use marks::{binary_shown, unary_shown};
 use rdc_outside::{Place, Seq, Text};
 use std::alloc::{AllocError, Global};
 use std::test::Fail;
 use vlog_lex::lex;
-use vlog_tree::{Binary, Expr, Number, Part, Unary};
+use vlog_tree::{Expr, Number, Part};
 
 // A text of one line, whose columns are counted from 0.
 fn text_of(alloc: Global, bytes: &[u8]) -> Result<Text, AllocError>
@@ -31,50 +34,6 @@ fn text_of(alloc: Global, bytes: &[u8]) -> Result<Text, AllocError>
         places: Seq::from_vec(places),
         files: Seq::new(alloc),
     })
-}
-
-fn unary_shown(op: Unary) -> &'static str {
-    match op {
-        Unary::Plus => "+",
-        Unary::Minus => "-",
-        Unary::Not => "!",
-        Unary::Invert => "~",
-        Unary::ReduceAnd => "&",
-        Unary::ReduceNand => "~&",
-        Unary::ReduceOr => "|",
-        Unary::ReduceNor => "~|",
-        Unary::ReduceXor => "^",
-        Unary::ReduceXnor => "~^",
-    }
-}
-
-fn binary_shown(op: Binary) -> &'static str {
-    match op {
-        Binary::Power => "**",
-        Binary::Multiply => "*",
-        Binary::Divide => "/",
-        Binary::Remainder => "%",
-        Binary::Add => "+",
-        Binary::Subtract => "-",
-        Binary::ShiftLeft => "<<",
-        Binary::ShiftRight => ">>",
-        Binary::ArithmeticShiftLeft => "<<<",
-        Binary::ArithmeticShiftRight => ">>>",
-        Binary::Less => "<",
-        Binary::AtMost => "<=",
-        Binary::Greater => ">",
-        Binary::AtLeast => ">=",
-        Binary::Equal => "==",
-        Binary::NotEqual => "!=",
-        Binary::CaseEqual => "===",
-        Binary::CaseNotEqual => "!==",
-        Binary::And => "&",
-        Binary::Xor => "^",
-        Binary::Xnor => "~^",
-        Binary::Or => "|",
-        Binary::LogicalAnd => "&&",
-        Binary::LogicalOr => "||",
-    }
 }
 
 // Width, s or u, bits, and the positions of z digits if there are any.
