@@ -8,3 +8,6 @@ pub mod ListingLemmas
 pub mod CycleLemmas
 pub mod SmallNetLemmas
 pub mod OrderLemmas
+pub mod PinLemmas
+pub mod PlaceLemmas
+pub mod NameLemmas

@@ -8,4 +8,5 @@ pub mod PinOrder
 pub mod Due
 pub mod Queue
 pub mod QueueOf
+pub mod Places
 pub mod SmallNet
