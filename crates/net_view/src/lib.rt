@@ -3,7 +3,8 @@
 //! A `View` is a list of gates over sources (`specs/View.antt`); a `FlopNet` is a view whose sources have names and
 //! kinds, with named bits (`specs/FlopNet.antt`). `eval_into` gives each node the ternary value of its gate, and
 //! raising sources to X raises nodes (`specs/Values.antt`). `cone` gives the sources that a node's logic reads
-//! (`specs/Cone.antt`), and a `Slice` is the cones of some nodes as a view of their own (`specs/Slice.antt`).
+//! (`specs/Cone.antt`), a `Slice` is the cones of some nodes as a view of their own
+//! (`specs/Slice.antt`), and `pin_order` lists the flops, each after those that its pin reads (`specs/PinOrder.antt`).
 //! The net: stands on `rdc_tern` and, for lists, on `rdc_outside`. The event model and every analysis are generic over these traits.
 #![tactic(auto)]
 

@@ -21,6 +21,3 @@ mod stuck;
 pub use fault::ExprFault;
 pub use laws::one_expression;
 pub use parser::parse_expr;
-
-#[cfg(test)]
-mod tests;

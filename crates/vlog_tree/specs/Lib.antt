@@ -6,6 +6,7 @@ pub mod Operators
 pub mod Expressions
 pub mod Lists
 pub mod Statements
+pub mod Declarations
 pub mod Items
 pub mod Modules
 pub mod Depth
