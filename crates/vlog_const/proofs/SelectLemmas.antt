@@ -5,7 +5,7 @@ use Rattle.std.proofs.lemmas.Nat.{mul-mod_first}
 use Rattle.std.proofs.lemmas.Bool.{cases_lt}
 use Rattle.vlog_const.specs.declared.whole.Whole.{Whole}
 use Rattle.vlog_const.specs.Words.{low}
-use Rattle.vlog_const.specs.Constants.{capped, window, copies}
+use Rattle.vlog_const.specs.Selects.{capped, window, copies}
 use Rattle.vlog_const.proofs.WordLemmas.{low-low, shifted_out, shifted_off}
 
 -- far below and far above no bit is reached

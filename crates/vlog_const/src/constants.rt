@@ -2,7 +2,9 @@
 ghost use Rattle.std.specs.Prelude.{◌≡◌, ◌≤◌, IfOk, map};
 ghost use Rattle.vlog_const.specs.Names.{values_of};
 ghost use Rattle.vlog_const.specs.Widths.{unsigned};
-ghost use Rattle.vlog_const.specs.Constants.{fixed, is_true, joined, named, nothing, number, selected, value_of, value_within, worth};
+ghost use Rattle.vlog_const.specs.Worths.{fixed, is_true, named, number};
+ghost use Rattle.vlog_const.specs.Selects.{joined, nothing, selected};
+ghost use Rattle.vlog_const.specs.Constants.{value_of, value_within, worth};
 ghost use Rattle.vlog_const.specs.Terms.{Answers, worth_of};
 
 use crate::answer::{ConstFault, ConstValue};
@@ -15,7 +17,7 @@ use std::alloc::Global;
 use vlog_tree::{Expr, Number};
 
 /// What a number is worth.
-#[tactic(auto, unfolding(crate::specs::Constants::number))]
+#[tactic(auto, unfolding(crate::specs::Worths::number))]
 fn number(place: Place, n: &Number) -> Result<Operand, ConstFault>
     ensures value { Answers worth_of result (number place n.now) }
     ensures bound { IfOk result (λ a. a.shape.width ≤ 128) }
@@ -28,7 +30,7 @@ fn number(place: Place, n: &Number) -> Result<Operand, ConstFault>
 }
 
 /// What a name stands for.
-#[tactic(auto, unfolding(crate::specs::Constants::named, crate::specs::Constants::looked_up, crate::specs::Constants::and_then))]
+#[tactic(auto, unfolding(crate::specs::Worths::named, crate::specs::Worths::looked_up, crate::specs::Worths::and_then))]
 fn named(place: Place, name: &[u8], env: &Env) -> Result<Operand, ConstFault>
     ensures value { Answers worth_of result (named (values_of env.now) place name.now) }
     ensures bound { IfOk result (λ a. a.shape.width ≤ 128) }
@@ -44,7 +46,7 @@ fn named(place: Place, name: &[u8], env: &Env) -> Result<Operand, ConstFault>
 }
 
 /// The value of a name, for a select.
-#[tactic(auto, unfolding(crate::specs::Constants::selected, crate::specs::Constants::and_then))]
+#[tactic(auto, unfolding(crate::specs::Selects::selected, crate::specs::Worths::and_then))]
 fn selected(place: Place, name: &[u8], env: &Env) -> Result<ConstValue, ConstFault>
     ensures value { Answers (λ v. v) result (selected (values_of env.now) place name.now) }
     ensures bound { IfOk result (λ v. v.width ≤ 128) }
@@ -54,7 +56,7 @@ fn selected(place: Place, name: &[u8], env: &Env) -> Result<ConstValue, ConstFau
 
 /// An expression by itself, from its parts, each of them visited once.
 #[cycle(parts)]
-#[tactic(auto, unfolding(crate::specs::Constants::worth, crate::specs::Constants::worth_by_parts, crate::specs::Constants::concat_worth, crate::specs::Constants::and_then))]
+#[tactic(auto, unfolding(crate::specs::Constants::worth, crate::specs::Constants::worth_by_parts, crate::specs::Selects::concat_worth, crate::specs::Worths::and_then))]
 fn operand(alloc: Global, e: &Expr, env: &Env) -> Result<Operand, ConstFault>
     ensures value { Answers worth_of result (worth (values_of env.now) e.now) }
     ensures bound { IfOk result (λ a. a.shape.width ≤ 128) }
@@ -110,7 +112,7 @@ fn operand(alloc: Global, e: &Expr, env: &Env) -> Result<Operand, ConstFault>
 
 /// Members side by side, the first one leftmost.
 #[cycle(parts)]
-#[tactic(auto, unfolding(crate::specs::Constants::joined, crate::specs::Constants::and_then))]
+#[tactic(auto, unfolding(crate::specs::Selects::joined, crate::specs::Worths::and_then))]
 fn joined(
     alloc: Global,
     place: Place,
@@ -177,7 +179,7 @@ fn is_true(value: ConstValue) -> bool
 /// `NotConstant` where a name has no value or an exponent is negative, `TooWide` where a concatenation, a replication,
 /// a part select or a given value passes 128 bits, `ZeroDivisor` where a divisor is 0, each at its place; also in a
 /// side of `?:`, `&&` or `||` that doesn't decide. Of several one in the order of reading, parts first.
-#[tactic(auto, unfolding(crate::specs::Constants::value_of, crate::specs::Constants::and_then))]
+#[tactic(auto, unfolding(crate::specs::Constants::value_of, crate::specs::Worths::and_then))]
 pub fn value(alloc: Global, e: &Expr, env: &Env) -> Result<ConstValue, ConstFault>
     ensures value { Answers (λ v. v) result (value_of (values_of env.now) e.now) }
     ensures bound { IfOk result (λ v. v.width ≤ 128) }
@@ -189,7 +191,7 @@ pub fn value(alloc: Global, e: &Expr, env: &Env) -> Result<ConstValue, ConstFaul
 ///
 /// # Errors
 /// As `value`, and `TooWide` where `width` passes 128.
-#[tactic(auto, unfolding(crate::specs::Constants::value_within, crate::specs::Constants::narrow, crate::specs::Constants::and_then))]
+#[tactic(auto, unfolding(crate::specs::Constants::value_within, crate::specs::Worths::narrow, crate::specs::Worths::and_then))]
 pub fn value_within(
     alloc: Global,
     e: &Expr,

@@ -1,7 +1,8 @@
 //! What an expression is by itself, and what operators make of it.
 ghost use Rattle.std.specs.Prelude.{◌≡◌, ◌≤◌, IfOk, Ok};
 ghost use Rattle.vlog_const.specs.Widths.{common};
-ghost use Rattle.vlog_const.specs.Constants.{alone, amount, binary_worth, choice_worth, fixed, in_context, narrow, settled, shape_of, unary_worth, truth};
+ghost use Rattle.vlog_const.specs.Worths.{alone, fixed, in_context, narrow, settled, shape_of, truth};
+ghost use Rattle.vlog_const.specs.Operations.{amount, binary_worth, choice_worth, unary_worth};
 ghost use Rattle.vlog_const.specs.Terms.{Answers, worth_of};
 
 use crate::answer::{ConstFault, ConstValue};
@@ -33,7 +34,7 @@ pub(crate) fn common(a: Shape, b: Shape) -> Shape
 }
 
 /// A width, where it is at most 128.
-#[tactic(auto, unfolding(crate::specs::Constants::narrow))]
+#[tactic(auto, unfolding(crate::specs::Worths::narrow))]
 pub(crate) fn narrow(place: Place, width: u128) -> Result<u32, ConstFault>
     ensures value { result ≡ narrow place width }
     ensures bound { IfOk result (λ w. w ≤ 128) }
@@ -58,7 +59,7 @@ pub(crate) fn fixed(place: Place, shape: Shape, bits: u128) -> Operand
 }
 
 /// Bits of some width, where that is at most 128.
-#[tactic(auto, unfolding(crate::specs::Constants::settled, crate::specs::Constants::narrow, crate::specs::Constants::and_then))]
+#[tactic(auto, unfolding(crate::specs::Worths::settled, crate::specs::Worths::narrow, crate::specs::Worths::and_then))]
 pub(crate) fn settled(place: Place, shape: Shape, bits: u128) -> Result<Operand, ConstFault>
     ensures value { Answers worth_of result (settled place shape bits) }
     ensures bound { IfOk result (λ a. a.shape.width ≤ 128) }
@@ -83,7 +84,7 @@ pub(crate) fn truth(place: Place, holds: bool) -> Operand
 
 impl Operand {
     /// The value in a context.
-    #[tactic(auto, unfolding(crate::specs::Constants::in_context, crate::specs::Constants::and_then))]
+    #[tactic(auto, unfolding(crate::specs::Worths::in_context, crate::specs::Worths::and_then))]
     pub(crate) fn in_context(&self, context: Shape) -> Result<ConstValue, ConstFault>
         requires { context.width ≤ 128 }
         ensures value { result ≡ in_context (worth_of self.now) context }
@@ -98,7 +99,7 @@ impl Operand {
     }
 
     /// The value where it is its own context.
-    #[tactic(auto, unfolding(crate::specs::Constants::alone))]
+    #[tactic(auto, unfolding(crate::specs::Worths::alone))]
     pub(crate) fn alone(&self) -> Result<ConstValue, ConstFault>
         requires { self.now.shape.width ≤ 128 }
         ensures value { result ≡ alone (worth_of self.now) }
@@ -109,7 +110,7 @@ impl Operand {
 }
 
 /// An operator before its operand.
-#[tactic(auto, unfolding(crate::specs::Constants::unary_in, crate::specs::Constants::and_then, crate::specs::Terms::term_value, crate::specs::Terms::term_by_parts))]
+#[tactic(auto, unfolding(crate::specs::Operations::unary_in, crate::specs::Worths::and_then, crate::specs::Terms::term_value, crate::specs::Terms::term_by_parts))]
 pub(crate) fn unary(
     alloc: Global,
     place: Place,
@@ -134,7 +135,7 @@ pub(crate) fn unary(
 }
 
 /// The number behind a shift or a power, if it is no negative exponent.
-#[tactic(auto, unfolding(crate::specs::Constants::amount))]
+#[tactic(auto, unfolding(crate::specs::Operations::amount))]
 fn amount(op: Binary, place: Place, count: ConstValue) -> Result<u128, ConstFault>
     ensures { result ≡ amount op place count }
 {
@@ -145,7 +146,7 @@ fn amount(op: Binary, place: Place, count: ConstValue) -> Result<u128, ConstFaul
 }
 
 /// An operator between its operands.
-#[tactic(auto, unfolding(crate::specs::Constants::binary_in, crate::specs::Constants::and_then, crate::specs::Constants::alone, crate::specs::Terms::term_value, crate::specs::Terms::term_by_parts))]
+#[tactic(auto, unfolding(crate::specs::Operations::binary_in, crate::specs::Worths::and_then, crate::specs::Worths::alone, crate::specs::Terms::term_value, crate::specs::Terms::term_by_parts))]
 pub(crate) fn binary(
     alloc: Global,
     place: Place,
@@ -189,7 +190,7 @@ pub(crate) fn binary(
 }
 
 /// `test ? a : b`
-#[tactic(auto, unfolding(crate::specs::Constants::choice_worth, crate::specs::Terms::term_value, crate::specs::Terms::term_by_parts))]
+#[tactic(auto, unfolding(crate::specs::Operations::choice_worth, crate::specs::Terms::term_value, crate::specs::Terms::term_by_parts))]
 pub(crate) fn choice(
     alloc: Global,
     place: Place,

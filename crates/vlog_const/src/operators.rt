@@ -2,7 +2,7 @@
 ghost use Rattle.std.specs.Prelude.{◌≡◌, ◌/◌, ◌%◌, ◌≤◌};
 ghost use Rattle.vlog_const.specs.Widths.{operand_family, family_of};
 ghost use Rattle.vlog_const.specs.Words.{differ, quotient, remainder, arithmetic, is_less, compared, shifted_right, shifted, reduced, sized, logical};
-ghost use Rattle.vlog_const.specs.Constants.{is_division, is_power};
+ghost use Rattle.vlog_const.specs.Operations.{is_division, is_power};
 
 use crate::shape::{Family, Shape};
 use crate::words::{
@@ -61,7 +61,7 @@ pub(crate) fn family(op: Binary) -> Family
 }
 
 /// `/` or `%`
-#[tactic(auto, unfolding(crate::specs::Constants::is_division))]
+#[tactic(auto, unfolding(crate::specs::Operations::is_division))]
 pub(crate) fn is_division(op: Binary) -> bool
     ensures { result ≡ is_division op }
 {
@@ -72,7 +72,7 @@ pub(crate) fn is_division(op: Binary) -> bool
 }
 
 /// `**`
-#[tactic(auto, unfolding(crate::specs::Constants::is_power))]
+#[tactic(auto, unfolding(crate::specs::Operations::is_power))]
 pub(crate) fn is_power(op: Binary) -> bool
     ensures { result ≡ is_power op }
 {

@@ -1,6 +1,6 @@
 //! Selects of a value's bits, copies of bits, and bits side by side.
 ghost use Rattle.std.specs.Prelude.{◌≡◌, ◌+◌, ◌-◌, ◌*◌, ◌^◌, ◌≤◌, min, IfOk};
-ghost use Rattle.vlog_const.specs.Constants.{beside, capped, copies, counted, index_worth, lowered, part_start, part_width, repeat_worth, select_worth, span, whole, window};
+ghost use Rattle.vlog_const.specs.Selects.{beside, capped, copies, counted, index_worth, lowered, part_start, part_width, repeat_worth, select_worth, span, whole, window};
 ghost use Rattle.vlog_const.specs.Words.{low};
 ghost use Rattle.vlog_const.specs.Terms.{Answers, worth_of};
 
@@ -42,7 +42,7 @@ fn distance(most: u128, least: u128) -> u128
 }
 
 /// How many positions stand from `msb` down to `lsb`, as far as a `u128` goes.
-#[tactic(auto, unfolding(crate::specs::Constants::span))]
+#[tactic(auto, unfolding(crate::specs::Selects::span))]
 fn span(msb: Whole, lsb: Whole) -> u128
     ensures { result ≡ min (span msb lsb) (2 ^ 128 - 1) }
 {
@@ -62,7 +62,7 @@ fn span(msb: Whole, lsb: Whole) -> u128
 }
 
 /// A number less k, as far as a `u128` goes.
-#[tactic(auto, unfolding(crate::specs::Constants::lowered))]
+#[tactic(auto, unfolding(crate::specs::Selects::lowered))]
 fn lowered(number: Whole, k: u128) -> Whole
     ensures { result ≡ capped (lowered number k) }
 {
@@ -89,7 +89,7 @@ fn lowered(number: Whole, k: u128) -> Whole
 }
 
 /// The positions from `start` up; those outside the bits are 0.
-#[tactic(auto, unfolding(crate::specs::Constants::window))]
+#[tactic(auto, unfolding(crate::specs::Selects::window))]
 fn window(bits: u128, start: Whole, width: u32) -> u128
     requires { width ≤ 128 }
     ensures { result ≡ window bits start width }
@@ -102,7 +102,7 @@ fn window(bits: u128, start: Whole, width: u32) -> u128
 }
 
 /// How wide a part select is, as far as a `u128` goes.
-#[tactic(auto, unfolding(crate::specs::Constants::part_width))]
+#[tactic(auto, unfolding(crate::specs::Selects::part_width))]
 fn part_width(part: Part, first: Whole, second: Whole) -> u128
     ensures { result ≡ min (part_width part first second) (2 ^ 128 - 1) }
 {
@@ -113,7 +113,7 @@ fn part_width(part: Part, first: Whole, second: Whole) -> u128
 }
 
 /// The lowest position of a part select, as far as a `u128` goes.
-#[tactic(auto, unfolding(crate::specs::Constants::part_start))]
+#[tactic(auto, unfolding(crate::specs::Selects::part_start))]
 fn part_start(part: Part, first: Whole, second: Whole) -> Whole
     ensures { result ≡ capped (part_start part first second) }
 {
@@ -125,7 +125,7 @@ fn part_start(part: Part, first: Whole, second: Whole) -> Whole
 }
 
 /// `value[index]`
-#[tactic(auto, unfolding(crate::specs::Constants::index_worth))]
+#[tactic(auto, unfolding(crate::specs::Selects::index_worth))]
 pub(crate) fn index(place: Place, value: ConstValue, index: ConstValue) -> Operand
     requires { index.width ≤ 128 }
     ensures value { worth_of result ≡ index_worth place value index }
@@ -139,7 +139,7 @@ pub(crate) fn index(place: Place, value: ConstValue, index: ConstValue) -> Opera
 }
 
 /// `value[first : second]` and its like
-#[tactic(auto, using(crate::proofs::SelectLemmas::select_steps), unfolding(crate::specs::Constants::select_worth, crate::specs::Constants::narrow, crate::specs::Constants::and_then))]
+#[tactic(auto, using(crate::proofs::SelectLemmas::select_steps), unfolding(crate::specs::Selects::select_worth, crate::specs::Worths::narrow, crate::specs::Worths::and_then))]
 pub(crate) fn select(
     place: Place,
     value: ConstValue,
@@ -171,7 +171,7 @@ pub(crate) fn select(
 }
 
 /// The members so far with a further one on their right.
-#[tactic(auto, using(crate::proofs::WordLemmas::word_steps), unfolding(crate::specs::Constants::beside, crate::specs::Constants::narrow, crate::specs::Constants::and_then))]
+#[tactic(auto, using(crate::proofs::WordLemmas::word_steps), unfolding(crate::specs::Selects::beside, crate::specs::Worths::narrow, crate::specs::Worths::and_then))]
 pub(crate) fn beside(
     place: Place,
     so_far: ConstValue,
@@ -206,7 +206,7 @@ fn moved(width: u32, bits: u128, count: u32, more: u128) -> u128
 }
 
 /// Copies of a value, side by side.
-#[tactic(auto, using(crate::proofs::SelectLemmas::moved_steps), unfolding(crate::specs::Constants::repeat_worth, crate::specs::Constants::settled, crate::specs::Constants::narrow, crate::specs::Constants::and_then))]
+#[tactic(auto, using(crate::proofs::SelectLemmas::moved_steps), unfolding(crate::specs::Selects::repeat_worth, crate::specs::Worths::settled, crate::specs::Worths::narrow, crate::specs::Worths::and_then))]
 pub(crate) fn repeat(
     place: Place,
     count: ConstValue,

@@ -1,6 +1,6 @@
 //! What is left to be computed of an expression once its context is known.
 ghost use Rattle.std.specs.Prelude.{◌≡◌, ◌≤◌};
-ghost use Rattle.vlog_const.specs.Constants.{divided};
+ghost use Rattle.vlog_const.specs.Operations.{divided};
 ghost use Rattle.vlog_const.specs.Terms.{term_value};
 
 use crate::answer::ConstFault;
@@ -27,7 +27,7 @@ pub(crate) enum Term {
 }
 
 /// An operator between two numbers of one context, unless it divides by 0.
-#[tactic(auto, unfolding(crate::specs::Constants::divided))]
+#[tactic(auto, unfolding(crate::specs::Operations::divided))]
 fn divided(op: Binary, place: Place, context: Shape, a: u128, b: u128) -> Result<u128, ConstFault>
     requires { context.width ≤ 128 }
     ensures { result ≡ divided op place context a b }
@@ -39,7 +39,7 @@ fn divided(op: Binary, place: Place, context: Shape, a: u128, b: u128) -> Result
 }
 
 /// What a term gives in a context. It goes down the term, once into each part.
-#[tactic(auto, unfolding(crate::specs::Terms::term_value, crate::specs::Terms::term_by_parts, crate::specs::Constants::and_then))]
+#[tactic(auto, unfolding(crate::specs::Terms::term_value, crate::specs::Terms::term_by_parts, crate::specs::Worths::and_then))]
 pub(crate) fn evaluated(term: &Term, context: Shape) -> Result<u128, ConstFault>
     requires { context.width ≤ 128 }
     ensures { result ≡ term_value term.now context }

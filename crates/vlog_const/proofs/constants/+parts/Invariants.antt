@@ -1,7 +1,8 @@
 -- What is left of the members decides what all give.
 use Rattle.std.proofs.Common.{◌≡◌, ◌≤◌, map, drop}
 use Rattle.vlog_const.specs.Names.{values_of}
-use Rattle.vlog_const.specs.Constants.{joined, nothing, worth}
+use Rattle.vlog_const.specs.Selects.{joined, nothing}
+use Rattle.vlog_const.specs.Constants.{worth}
 use Rattle.vlog_const.proofs.constants.+parts.Given as goal
 
 abbrev pub invariant-joined-loop-member : goal.invariant-joined-loop-member

@@ -1,6 +1,6 @@
 -- No copies are nothing.
 use Rattle.std.proofs.Common.{arith}
-use Rattle.vlog_const.specs.Constants.{copies}
+use Rattle.vlog_const.specs.Selects.{copies}
 use Rattle.vlog_const.proofs.selects.copies.Goals as goal
 
 pub loop-done-init : goal.loop-done-init
