@@ -79,8 +79,8 @@ fn last(alloc: Global, stack: &mut Vec<Expr>, count: usize) -> Result<Items<Expr
         reversed.push(top(stack)?)?;
     }
     let mut members = Items::new(alloc);
-    while let Some(e) = reversed.pop() {
-        members.push(e)?;
+    for _ in 0..count {
+        members.push(top(&mut reversed)?)?;
     }
     Ok(members)
 }
