@@ -21,3 +21,8 @@ mod stuck;
 pub use fault::ExprFault;
 pub use laws::one_expression;
 pub use parser::parse_expr;
+
+#[cfg(test)]
+mod shown;
+#[cfg(test)]
+mod tests;
