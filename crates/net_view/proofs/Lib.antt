@@ -1,4 +1,4 @@
-mod ValuesLemmas
+pub mod ValuesLemmas
 pub mod Members
 pub mod ConeLemmas
 pub mod SourceLemmas
