@@ -1,0 +1,3 @@
+-- The lemmas.
+pub mod FirstLemmas
+pub mod TableLemmas
