@@ -1,5 +1,5 @@
 -- Serves specs/Reads.antt: the first by name of sources that are looked at one after another.
-use Rattle.std.proofs.Common.{◌≡◌, ◌⊎◌, inl, inr, ℕ, ◌+◌, ◌<◌, Bool, true, false, List, Option, Some, None, sym, subst, ap, refl, ◌∙◌, arith}
+use Rattle.std.proofs.Common.{◌≡◌, ◌⊎◌, inl, inr, ℕ, zero, suc, ◌+◌, ◌<◌, ◌≤◌, Bool, true, false, List, [], ◌∷◌, length, Option, Some, None, sym, subst, ap, refl, ◌∙◌, arith}
 use Rattle.std.specs.Prelude.{MatchOption, IfSome, slice_index_or}
 use Rattle.std.specs.Ordering.{nat_cmp, is_lt, ordering_reverse}
 use Rattle.std.specs.declared.cmp.Ordering.{Ordering}
@@ -104,6 +104,30 @@ best_take names marks s best result marked = elim best as (λ o. IsBest names ma
     })
   ]
 ]
+
+-- the best is one of those that were looked at
+pub better_inside : (names : List (List ℕ)) (best : Option ℕ) (s : ℕ) (result : Option ℕ) → IfSome best (λ b. b < s) → IsBetter names best s result → IfSome result (λ b. b < s + 1)
+better_inside names best s result low = elim best as (λ o. IfSome o (λ b. b < s) → IsBetter names o s result → IfSome result (λ b. b < s + 1)) [
+  | None ↦ λ low is. subst (λ (o : Option ℕ). IfSome o (λ b. b < s + 1)) (sym is) (omega arith)
+  | Some b ↦ λ low better. elim better [
+    | inl new ↦ subst (λ (o : Option ℕ). IfSome o (λ b. b < s + 1)) (sym new.0) (omega arith)
+    | inr old ↦ subst (λ (o : Option ℕ). IfSome o (λ b. b < s + 1)) (sym old.0) (omega arith)
+  ]
+] low
+
+pub later_inside : (best : Option ℕ) (s : ℕ) → IfSome best (λ b. b < s) → IfSome best (λ b. b < s + 1)
+later_inside None s h = tt
+later_inside (Some b) s h = omega arith
+
+pub inside_all : (best : Option ℕ) (s count : ℕ) → s ≤ count → IfSome best (λ b. b < s) → IfSome best (λ b. b < count)
+inside_all None s count le h = tt
+inside_all (Some b) s count le h = omega arith
+
+-- what is marked is in the list
+pub marked_inside : (marks : List Bool) (s : ℕ) → IsMarked marks s → s < length marks
+marked_inside [] s h = absurd cc
+marked_inside (m ∷ marks) zero h = omega arith
+marked_inside (m ∷ marks) (suc s) h = let low = marked_inside marks s h in omega arith
 
 -- all of them were looked at
 pub best_whole : (names : List (List ℕ)) (marks : List Bool) (bound : ℕ) (best : Option ℕ) → ((s : ℕ) → IsMarked marks s → s < bound) → IsBest names marks bound best

@@ -3,6 +3,7 @@
 --     names_in                       the names of a table
 --     IsMarked                       a source is marked
 --     has_no_clock, clock_in         what a kind says of its clock
+--     MarksFail                      what is answered of marked flops and clocks
 --     pin_in                         the pin of a source of the kind
 --     IsClockIn                      a port that clocks one of some sources
 use Rattle.std.specs.Prelude.{◌≡◌, ℕ, ◌<◌, Bool, true, false, IsTrue, List, length, map, slice_get, slice_index_or, Option, Some, None}
@@ -11,6 +12,10 @@ use Rattle.net_view.specs.declared.gate.Gate.TheVariants.{Source}
 use Rattle.net_view.specs.declared.flop_net.SrcKind.TheVariants.{Port, BoxOut, Flop}
 use Rattle.net_view.specs.View.{Numbered, IsGateAt}
 use Rattle.net_view.specs.FlopNet.{Kind}
+use Rattle.net_view.specs.PinOrder.{name_of}
+use Rattle.reset_trees.specs.declared.fault.TreeFault.{TreeFault}
+use Rattle.reset_trees.specs.declared.fault.TreeFault.TheVariants.{Memory, ResetLoop, ClockNotPort, ClockAsData}
+use Rattle.reset_trees.specs.Reads.{IsFirst}
 
 -- the table is as long as the whole list, and has its entry for the source of each node below the bound
 pub record Fills {X : Type 0} (gates : List Numbered) (whole : List X) (bound : ℕ) (table : List X) : Type 0 where
@@ -51,3 +56,11 @@ abbrev pub pin_in : Kind → Option ℕ
 pin_in Port = None
 pin_in BoxOut = None
 pin_in (Flop f) = f.pin
+
+-- the first flop of those that are marked, or where there is none the first clock
+abbrev pub MarksFail : List (List ℕ) → List Bool → List Bool → TreeFault → Type 0
+MarksFail names flops clocks Memory = Unit {0}
+MarksFail names flops clocks (ResetLoop loop) = ⊥
+MarksFail names flops clocks (ClockNotPort name) = (s : ℕ) × IsFirst names (IsMarked flops) s × (name ≡ name_of names s)
+MarksFail names flops clocks (ClockAsData name) =
+    ((s : ℕ) → IsMarked flops s → ⊥) × ((c : ℕ) × IsFirst names (IsMarked clocks) c × (name ≡ name_of names c))

@@ -2,7 +2,7 @@
 
 ghost use Rattle.std.specs.Prelude.{◌≡◌, ◌<◌, length, map, Some, All, IfSome, IfOk};
 ghost use Rattle.cons_bind.specs.Marks.{Marks};
-ghost use Rattle.cons_bind.specs.Reading.{Adds};
+ghost use Rattle.cons_bind.specs.Reading.{Adds, AreUnmarked};
 ghost use Rattle.reset_trees.specs.Tables.{IsMarked, IsClockIn, clock_in, has_no_clock};
 
 use net_view::SrcKind;
@@ -48,6 +48,18 @@ fn mark_clock(kind: &SrcKind<u32>, read: &[bool], marks: &mut [bool])
     }
 }
 
+/// Marks each port that clocks a flop and is marked as read, where none is marked yet.
+fn mark_clocks(kinds: &[SrcKind<u32>], read: &[bool], marks: &mut [bool])
+    requires sized { length marks.old ≡ length read.now }
+    requires inside { All (λ kind. IfSome (clock_in kind) (λ c. c < length read.now)) kinds.now }
+    ensures marks { AreUnmarked marks.old → Marks (λ c. IsClockIn kinds.now c × IsMarked read.now c) marks.new }
+    ensures len { length marks.new ≡ length marks.old }
+{
+    'kinds: for kind in kinds {
+        mark_clock(kind, read, marks);
+    }
+}
+
 /// A mark for each port that clocks a flop and is marked as read.
 pub(crate) fn read_clocks(
     alloc: Global,
@@ -59,8 +71,6 @@ pub(crate) fn read_clocks(
     ensures len { IfOk result (λ marks. length marks.items ≡ length read.now) }
 {
     let mut marks = vec![in alloc; false; read.len()]?;
-    'kinds: for kind in kinds {
-        mark_clock(kind, read, &mut marks);
-    }
+    mark_clocks(kinds, read, &mut marks);
     Ok(marks)
 }

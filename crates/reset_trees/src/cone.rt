@@ -24,11 +24,7 @@ pub(crate) fn numbers_of<V: FlopNet>(
 }
 
 /// The sources that a node's logic reads, ascending.
-pub(crate) fn cone_of<V: FlopNet>(
-    alloc: Global,
-    view: &V,
-    node: u32,
-) -> Result<Seq<u32>, ConeFault>
+pub(crate) fn cone_of<V: FlopNet>(alloc: Global, view: &V, node: u32) -> Result<Seq<u32>, ConeFault>
     requires { node < length (V.gates view.now) }
     ensures { IfOk result (λ read. Lists (ReadsSource (V.gates view.now) node) read) }
 {

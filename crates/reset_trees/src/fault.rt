@@ -1,8 +1,5 @@
 //! Why a call gives no answer.
 
-ghost use Rattle.std.specs.Prelude.{◌≡◌};
-ghost use Rattle.reset_trees.specs.declared.fault.TreeFault.TheVariants.{Memory};
-
 use net_view::ConeFault;
 use rdc_outside::Seq;
 use std::alloc::{AllocError, AllocFailed};
@@ -21,6 +18,9 @@ pub enum TreeFault {
 }
 
 impl From<AllocError> for TreeFault {
+    ghost use Rattle.std.specs.Prelude.{◌≡◌};
+    ghost use Rattle.reset_trees.specs.declared.fault.TreeFault.TheVariants.{Memory};
+
     ghost from_gives = { λ _ e. e ≡ Memory };
 
     fn from(_: AllocError) -> TreeFault {
@@ -29,6 +29,9 @@ impl From<AllocError> for TreeFault {
 }
 
 impl<T: Drop> From<AllocFailed<T>> for TreeFault {
+    ghost use Rattle.std.specs.Prelude.{◌≡◌};
+    ghost use Rattle.reset_trees.specs.declared.fault.TreeFault.TheVariants.{Memory};
+
     ghost from_gives = { λ _ e. e ≡ Memory };
 
     fn from(_: AllocFailed<T>) -> TreeFault {
@@ -37,6 +40,9 @@ impl<T: Drop> From<AllocFailed<T>> for TreeFault {
 }
 
 impl From<ConeFault> for TreeFault {
+    ghost use Rattle.std.specs.Prelude.{◌≡◌};
+    ghost use Rattle.reset_trees.specs.declared.fault.TreeFault.TheVariants.{Memory};
+
     ghost from_gives = { λ _ e. e ≡ Memory };
 
     fn from(_: ConeFault) -> TreeFault {

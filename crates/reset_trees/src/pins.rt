@@ -3,6 +3,7 @@
 ghost use Rattle.std.specs.Prelude.{◌≡◌, MatchResult};
 ghost use Rattle.cons_bind.specs.Names.{net_of};
 ghost use Rattle.reset_trees.specs.Tables.{pin_in};
+ghost use Rattle.reset_trees.specs.declared.fault.TreeFault.TheVariants.{Memory};
 ghost use Rattle.reset_trees.specs.Trees.{ArePinCones};
 
 use crate::cone::cone_of;

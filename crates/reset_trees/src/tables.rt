@@ -53,10 +53,7 @@ fn kind_of<V: FlopNet>(view: &V, source: V::Src) -> SrcKind<u32>
 }
 
 /// What drives each source.
-pub(crate) fn kinds_of<V: FlopNet>(
-    alloc: Global,
-    view: &V,
-) -> Result<Vec<SrcKind<u32>>, AllocError>
+pub(crate) fn kinds_of<V: FlopNet>(alloc: Global, view: &V) -> Result<Vec<SrcKind<u32>>, AllocError>
     ensures { IfOk result (λ kinds. kinds.items ≡ V.kinds view.now) }
 {
     let _bits = view.bits();
