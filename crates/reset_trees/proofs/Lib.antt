@@ -3,3 +3,6 @@ pub mod FirstLemmas
 pub mod TableLemmas
 pub mod ClockLemmas
 pub mod PinLemmas
+pub mod ReachLemmas
+pub mod DomainLemmas
+pub mod StepLemmas

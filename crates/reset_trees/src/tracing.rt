@@ -19,7 +19,7 @@ use net_view::{FlopNet, OrderFault, SrcKind, pin_order};
 use std::alloc::Global;
 
 /// The first flop that is marked as without a clock, or else the first clock that is marked as read.
-fn first_fault(
+pub(crate) fn first_fault(
     alloc: Global,
     names: &[&str],
     without: &[bool],
