@@ -1,18 +1,16 @@
 -- Serves specs/Trees.antt: what the marks of clocks say.
-use Rattle.std.proofs.Common.{◌≡◌, ◌↔◌, ◌⊎◌, inl, inr, ℕ, zero, suc, ◌+◌, ◌<◌, ◌≤◌, Bool, true, false, List, [], ◌∷◌, ◌++◌, length, map, get_or, take, Option, Some, None, All, Contains, sym, subst, ap, refl, ◌∙◌, arith}
+use Rattle.std.proofs.Common.{◌≡◌, ◌↔◌, ◌⊎◌, inl, inr, ℕ, zero, suc, ◌+◌, ◌<◌, Bool, true, false, List, [], ◌∷◌, length, map, get_or, take, Option, Some, None, All, sym, subst, ap, refl, ◌∙◌, arith}
 use Rattle.std.specs.Prelude.{slice_get, slice_index_or, IfSome, Result, Ok, Err, MatchResult}
 use Rattle.reset_trees.specs.declared.trees.Trees.{Trees}
-use Rattle.std.proofs.lemmas.Option.{slice_get_cases, slice_get_within, slice_get_past, slice_get-get_or}
+use Rattle.std.proofs.lemmas.Option.{slice_get_cases, slice_get_within, slice_get-get_or}
 use Rattle.std.proofs.lemmas.List.{get_or-map, length-map, length-take}
-use Rattle.net_view.specs.declared.flop_net.FlopOf.{FlopOf}
 use Rattle.net_view.specs.declared.flop_net.SrcKind.TheVariants.{Port, BoxOut, Flop}
-use Rattle.net_view.specs.FlopNet.{Kind, Bit, IsFlopAt, IsFlopNet}
+use Rattle.net_view.specs.FlopNet.{Kind, Bit, IsFlopNet}
 use Rattle.net_view.specs.View.{Numbered}
 use Rattle.cons_bind.specs.Names.{Net}
 use Rattle.cons_bind.specs.Marks.{Marks}
 use Rattle.cons_bind.specs.Claims.{IsReadSource}
 use Rattle.cons_bind.specs.Reading.{Adds, AreUnmarked}
-use Rattle.reset_trees.specs.Reads.{IsFirst}
 use Rattle.reset_trees.specs.Tables.{IsMarked, IsClockIn, MarksFail, is_absent, has_no_clock, clock_in}
 use Rattle.reset_trees.specs.declared.fault.TreeFault.{TreeFault}
 use Rattle.reset_trees.specs.declared.fault.TreeFault.TheVariants.{Memory, ResetLoop, ClockNotPort, ClockAsData}

@@ -6,3 +6,4 @@ pub mod PinLemmas
 pub mod ReachLemmas
 pub mod DomainLemmas
 pub mod StepLemmas
+mod TangledNetLemmas

@@ -1,10 +1,10 @@
 -- Serves specs/Tables.antt: tables that are filled node by node, and marks of a list.
-use Rattle.std.proofs.Common.{◌≡◌, ◌⊎◌, inl, inr, ℕ, zero, suc, ◌+◌, ◌<◌, ◌≤◌, Bool, true, false, List, [], ◌∷◌, length, map, get_or, set, Option, Some, None, sym, subst, ap, refl, ◌∙◌, arith, length-set}
-use Rattle.std.specs.Prelude.{slice_get, slice_index_or, IfSome}
-use Rattle.std.proofs.lemmas.Option.{slice_get_cases, slice_get_within, slice_get_past, slice_get-map, get_or_from_slice_get}
+use Rattle.std.proofs.Common.{◌≡◌, ◌⊎◌, inl, inr, ℕ, zero, suc, ◌+◌, ◌<◌, ◌≤◌, List, [], ◌∷◌, length, set, Some, sym, subst, ap, refl, ◌∙◌, arith, length-set}
+use Rattle.std.specs.Prelude.{slice_get}
+use Rattle.std.proofs.lemmas.Option.{slice_get_within}
 use Rattle.net_view.specs.declared.gate.Gate.TheVariants.{Source}
 use Rattle.net_view.specs.View.{Numbered, IsGateAt, IsNet}
-use Rattle.reset_trees.specs.Tables.{Fills, IsMarked}
+use Rattle.reset_trees.specs.Tables.{Fills}
 
 some_source : (g h : Numbered) → Some g ≡ Some h → g ≡ h
 some_source g h e = cc

@@ -7,3 +7,4 @@ pub mod Tables
 pub mod Reach
 pub mod Graph
 pub mod PinSteps
+pub mod TangledNet

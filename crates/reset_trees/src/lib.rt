@@ -27,4 +27,6 @@ pub use trees::{PinCone, Trees};
 #[cfg(test)]
 mod small_net;
 #[cfg(test)]
+mod tangled_net;
+#[cfg(test)]
 mod tests;

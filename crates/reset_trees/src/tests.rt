@@ -1,8 +1,9 @@
-//! The trees of one small net, and the first by name of some sources, worked by hand.
+//! The trees of two small nets, and the first by name of some sources, worked by hand.
 
 use crate::small_net::Small;
+use crate::tangled_net::Tangled;
 use crate::tracing::first_fault;
-use crate::{TreeFault, trace};
+use crate::{TreeFault, Trees, trace};
 use rdc_outside::Seq;
 use std::alloc::{AllocError, Global};
 use std::test::Fail;
@@ -17,10 +18,7 @@ fn listed(alloc: Global, numbers: &[u32]) -> Result<String, AllocError> {
 }
 
 // The order, and each pin with what it reads.
-fn shown(alloc: Global) -> Result<String, AllocError> {
-    let Ok(trees) = trace(alloc, &Small) else {
-        return String::from_str(alloc, "a fault");
-    };
+fn shown(alloc: Global, trees: &Trees) -> Result<String, AllocError> {
     let mut all = listed(alloc, trees.order.as_slice())?;
     for pin in trees.pins.as_slice() {
         let flop = pin.flop;
@@ -33,8 +31,38 @@ fn shown(alloc: Global) -> Result<String, AllocError> {
 
 #[test]
 fn a_register_under_a_reset_has_two_pins(rt: HostRuntime) -> Result<(), Fail> {
-    let text = shown(rt.alloc())?;
+    let Ok(trees) = trace(rt.alloc(), &Small) else {
+        assert!(rt; false, "it has no cycle");
+        return Ok(());
+    };
+    let text = shown(rt.alloc(), &trees)?;
     assert_eq!(rt; text.as_str(), "3 4 6 3: 5 4: 5 ");
+    Ok(())
+}
+
+#[test]
+fn a_flop_stands_behind_those_that_its_pin_reads(rt: HostRuntime) -> Result<(), Fail> {
+    let Ok(trees) = trace(rt.alloc(), &Tangled { looped: false }) else {
+        assert!(rt; false, "it has no cycle");
+        return Ok(());
+    };
+    let text = shown(rt.alloc(), &trees)?;
+    assert_eq!(rt; text.as_str(), "3 1 2 1: 4 2: 1 3: 4 ");
+    Ok(())
+}
+
+#[test]
+fn a_cycle_is_named_from_its_least_name_on(rt: HostRuntime) -> Result<(), Fail> {
+    let Err(TreeFault::ResetLoop(names)) = trace(rt.alloc(), &Tangled { looped: true }) else {
+        assert!(rt; false, "it has a cycle");
+        return Ok(());
+    };
+    let mut text = String::new(rt.alloc());
+    for name in names.as_slice() {
+        let one = name_shown(rt.alloc(), "flop", name)?;
+        write!(text, "{one} ")?;
+    }
+    assert_eq!(rt; text.as_str(), "flop 97 flop 122 flop 109 ");
     Ok(())
 }
 

@@ -1,4 +1,4 @@
-use Rattle.std.proofs.Common.{◌≡◌, ℕ, List, get_or, take, refl, subst, arith, Contains}
+use Rattle.std.proofs.Common.{◌≡◌, ℕ, List, get_or, refl, subst, arith, Contains}
 use Rattle.std.proofs.lemmas.List.{take_all}
 use Rattle.reset_trees.specs.Graph.{AddsSteps}
 use Rattle.reset_trees.proofs.StepLemmas.{each_none, each_more}

@@ -1,5 +1,5 @@
 -- Of equal names the lower number comes first.
-use Rattle.std.proofs.Common.{◌≡◌, inr, refl, sym, ◌∙◌}
+use Rattle.std.proofs.Common.{inr, refl, sym, ◌∙◌}
 use Rattle.reset_trees.specs.Tables.{names_in}
 use Rattle.reset_trees.proofs.FirstLemmas.{named_other}
 use Rattle.reset_trees.proofs.naming.better.Goals as goal

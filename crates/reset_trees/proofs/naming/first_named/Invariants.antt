@@ -1,5 +1,5 @@
 -- The best of the sources that were looked at.
-use Rattle.std.proofs.Common.{◌<◌, length}
+use Rattle.std.proofs.Common.{◌<◌}
 use Rattle.std.specs.Prelude.{IfSome}
 use Rattle.reset_trees.specs.Tables.{names_in}
 use Rattle.reset_trees.proofs.FirstLemmas.{IsBest}

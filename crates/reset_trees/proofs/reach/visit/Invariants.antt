@@ -1,4 +1,3 @@
-use Rattle.std.proofs.Common.{◌≡◌, length}
 use Rattle.reset_trees.proofs.ReachLemmas.{Visiting}
 use Rattle.reset_trees.proofs.reach.visit.Given as goal
 

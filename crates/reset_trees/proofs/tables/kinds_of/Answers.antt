@@ -1,5 +1,5 @@
 -- Each node is looked at.
-use Rattle.std.proofs.Common.{◌≡◌, ◌+◌, ◌<◌, ℕ, List, length, set, refl, sym, subst, ◌∙◌, arith}
+use Rattle.std.proofs.Common.{◌≡◌, ◌+◌, ◌<◌, ℕ, List, set, refl, sym, subst, arith}
 use Rattle.net_view.specs.declared.gate.Gate.TheVariants.{Source}
 use Rattle.net_view.specs.View.{IsGateAt}
 use Rattle.net_view.specs.FlopNet.{Kind}

@@ -1,5 +1,5 @@
 -- Each node is looked at.
-use Rattle.std.proofs.Common.{◌≡◌, ◌+◌, ◌<◌, ℕ, List, length, set, map, refl, sym, subst, ap, ◌∙◌, arith}
+use Rattle.std.proofs.Common.{◌≡◌, ◌+◌, ◌<◌, ℕ, List, set, refl, sym, subst, ap, ◌∙◌, arith}
 use Rattle.std.specs.Borrow.{Bor}
 use Rattle.std.proofs.lemmas.List.{map-set, length-map}
 use Rattle.net_view.specs.declared.gate.Gate.TheVariants.{Source}

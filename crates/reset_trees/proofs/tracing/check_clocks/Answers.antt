@@ -5,7 +5,6 @@ use Rattle.std.proofs.lemmas.List.{length-map}
 use Rattle.net_view.specs.FlopNet.{Kind}
 use Rattle.cons_bind.specs.Names.{net_of}
 use Rattle.cons_bind.specs.Marks.{Marks}
-use Rattle.cons_bind.specs.Claims.{IsReadSource}
 use Rattle.reset_trees.specs.Trees.{HasNoClock, IsReadClock}
 use Rattle.reset_trees.specs.Tables.{clock_in, has_no_clock, IsMarked, IsClockIn, names_in, MarksFail}
 use Rattle.reset_trees.proofs.ClockLemmas.{clocks_inside, marked_clockless, marked_clocks, clocks_fail, match_result}

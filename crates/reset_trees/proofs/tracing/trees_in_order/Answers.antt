@@ -1,4 +1,3 @@
-use Rattle.std.proofs.Common.{◌≡◌, List, sym, subst, ◌∙◌}
 use Rattle.cons_bind.specs.Names.{net_of}
 use Rattle.reset_trees.proofs.ClockLemmas.{clock_answer, trees_answer}
 use Rattle.reset_trees.proofs.tracing.trees_in_order.Goals as goal
