@@ -1,0 +1,9 @@
+pub mod ManyLemmas
+pub mod Exact
+pub mod ListsSteady
+pub mod TargetsSteady
+pub mod StmtsSteady
+pub mod ControlsSteady
+pub mod ManyExact
+pub mod PiecesExact
+pub mod HeaderExact
