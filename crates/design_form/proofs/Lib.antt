@@ -1,0 +1,11 @@
+pub mod TableLemmas
+pub mod NameLemmas
+pub mod WordLemmas
+pub mod LengthLemmas
+pub mod ValueLemmas
+pub mod WidthLemmas
+pub mod DesignLemmas
+pub mod NumberLemmas
+pub mod KeptWords
+pub mod KeptValues
+pub mod StateLaws
