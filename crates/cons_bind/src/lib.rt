@@ -22,6 +22,7 @@ mod wanted;
 pub use binder::bind;
 pub use bound::{Bound, BoundForm, BoundLine, Ports};
 pub use fault::BindFault;
+pub use reads::read_sources;
 
 #[cfg(test)]
 mod small_net;

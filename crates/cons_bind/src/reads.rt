@@ -149,7 +149,7 @@ fn mark_read_sources<V: FlopNet>(view: &V, nodes: &[bool], marks: &mut [bool])
 }
 
 /// A mark for each source that the data or the pin of some flop reads.
-pub(crate) fn read_sources<V: FlopNet>(alloc: Global, view: &V) -> Result<Vec<bool>, AllocError>
+pub fn read_sources<V: FlopNet>(alloc: Global, view: &V) -> Result<Vec<bool>, AllocError>
     ensures marks { IfOk result (λ marks. let net = net_of (V.gates view.now) (V.names view.now) (V.kinds view.now) (V.named_bits view.now) in
         Marks (IsReadSource net) marks.items) }
     ensures len { IfOk result (λ marks. length marks.items ≡ V.source_count view.now) }

@@ -1,0 +1,8 @@
+-- The lemmas.
+pub mod FirstLemmas
+pub mod TableLemmas
+pub mod ClockLemmas
+pub mod PinLemmas
+pub mod ReachLemmas
+pub mod DomainLemmas
+pub mod StepLemmas

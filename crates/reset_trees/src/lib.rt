@@ -1,0 +1,30 @@
+//! The reset trees of a net with flops.
+//!
+//! `trace` answers the pin order and the cones of the pins, or why a net has no such trees (`specs/Trees.antt`).
+//! `reset_domains` answers each declared reset with the flops that it can reset (`specs/Domain.antt`).
+//! The event model: stands on `net_view` for nets, on `cons_bind` for what data and pins read.
+#![tactic(auto)]
+
+mod clocks;
+mod cone;
+mod domain;
+mod domains;
+mod fault;
+mod graph;
+mod naming;
+mod pins;
+mod reach;
+mod tables;
+mod tracing;
+mod trees;
+
+pub use domain::reset_domains;
+pub use domains::DomainOf;
+pub use fault::TreeFault;
+pub use tracing::trace;
+pub use trees::{PinCone, Trees};
+
+#[cfg(test)]
+mod small_net;
+#[cfg(test)]
+mod tests;
