@@ -2,9 +2,11 @@
 -- The faults are looked for in the parts first, from left to right; both sides of `?:`, of `&&` and of `||` count.
 --     worth values e                                    an expression by itself, where names stand for those values
 --     value_of values e, value_within values w e        its value alone, and in a context of at least w bits
+--     value_in values c e                               its value in a context
 use Rattle.std.specs.Prelude.{ℕ, max, Ok}
 use Rattle.vlog_tree.specs.declared.expr.Expr.{Expr, fold-Expr}
 use Rattle.vlog_tree.specs.declared.expr.Expr.TheOpen.{Expr-F}
+use Rattle.vlog_const.specs.declared.shape.Shape.{Shape}
 use Rattle.vlog_const.specs.declared.answer.ConstValue.{ConstValue}
 use Rattle.vlog_const.specs.Names.{Values}
 use Rattle.vlog_const.specs.Widths.{within}
@@ -67,3 +69,14 @@ value_within values w e = do
   a ← worth values e
   n ← narrow a.place (max a.shape.width w)
   in_context a (within w a.shape)
+
+-- what an expression by itself gives in a context, where that has at most 128 bits
+unfoldable pub worth_in : Shape → Or_fault Worth → Or_fault ConstValue
+worth_in c r = do
+  a ← r
+  n ← narrow a.place c.width
+  in_context a c
+
+-- the value in a context, as of a part of a longer expression
+unfoldable pub value_in : Values → Shape → Expr → Or_fault ConstValue
+value_in values c e = worth_in c (worth values e)

@@ -4,7 +4,7 @@ ghost use Rattle.vlog_const.specs.Names.{values_of};
 ghost use Rattle.vlog_const.specs.Widths.{unsigned};
 ghost use Rattle.vlog_const.specs.Worths.{fixed, is_true, named, number};
 ghost use Rattle.vlog_const.specs.Selects.{joined, nothing, selected};
-ghost use Rattle.vlog_const.specs.Constants.{value_of, value_within, worth};
+ghost use Rattle.vlog_const.specs.Constants.{value_in, value_of, value_within, worth};
 ghost use Rattle.vlog_const.specs.Terms.{Answers, worth_of};
 
 use crate::answer::{ConstFault, ConstValue};
@@ -209,4 +209,25 @@ pub fn value_within(
         width: a.shape.width.max(width),
         signed: a.shape.signed,
     })
+}
+
+/// The value in a context of some shape, as of a part of a longer expression.
+///
+/// # Errors
+/// As `value`, and `TooWide` where the context passes 128 bits.
+#[tactic(auto, unfolding(crate::specs::Constants::value_in, crate::specs::Constants::worth_in, crate::specs::Worths::narrow, crate::specs::Worths::and_then))]
+pub fn value_in(
+    alloc: Global,
+    e: &Expr,
+    env: &Env,
+    context: Shape,
+) -> Result<ConstValue, ConstFault>
+    ensures value { Answers (λ v. v) result (value_in (values_of env.now) context e.now) }
+    ensures bound { IfOk result (λ v. v.width ≤ 128) }
+{
+    let a = operand(alloc, e, env)?;
+    if 128 < context.width {
+        return Err(ConstFault::TooWide(a.place));
+    }
+    a.in_context(context)
 }

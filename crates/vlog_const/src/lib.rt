@@ -18,9 +18,11 @@ mod whole;
 mod words;
 
 pub use answer::{ConstFault, ConstValue};
-pub use constants::{value, value_within};
+pub use constants::{value, value_in, value_within};
 pub use env::Env;
+pub use operators::{family, is_division, is_power, operand_family};
 pub use shape::{Family, Shape};
+pub use whole::Whole;
 
 #[cfg(test)]
 mod tests;

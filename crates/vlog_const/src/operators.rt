@@ -13,7 +13,7 @@ use vlog_tree::{Binary, Unary};
 
 /// How an operator before an operand treats it.
 #[tactic(auto, unfolding(crate::specs::Widths::operand_family))]
-pub(crate) fn operand_family(op: Unary) -> Family
+pub fn operand_family(op: Unary) -> Family
     ensures { result ≡ operand_family op }
 {
     match op {
@@ -30,7 +30,7 @@ pub(crate) fn operand_family(op: Unary) -> Family
 
 /// How an operator treats its two operands.
 #[tactic(auto, unfolding(crate::specs::Widths::family_of))]
-pub(crate) fn family(op: Binary) -> Family
+pub fn family(op: Binary) -> Family
     ensures { result ≡ family_of op }
 {
     match op {
@@ -62,7 +62,7 @@ pub(crate) fn family(op: Binary) -> Family
 
 /// `/` or `%`
 #[tactic(auto, unfolding(crate::specs::Operations::is_division))]
-pub(crate) fn is_division(op: Binary) -> bool
+pub fn is_division(op: Binary) -> bool
     ensures { result ≡ is_division op }
 {
     match op {
@@ -73,7 +73,7 @@ pub(crate) fn is_division(op: Binary) -> bool
 
 /// `**`
 #[tactic(auto, unfolding(crate::specs::Operations::is_power))]
-pub(crate) fn is_power(op: Binary) -> bool
+pub fn is_power(op: Binary) -> bool
     ensures { result ≡ is_power op }
 {
     match op {

@@ -43,7 +43,7 @@ fn distance(most: u128, least: u128) -> u128
 
 /// How many positions stand from `msb` down to `lsb`, as far as a `u128` goes.
 #[tactic(auto, unfolding(crate::specs::Selects::span))]
-fn span(msb: Whole, lsb: Whole) -> u128
+pub(crate) fn span(msb: Whole, lsb: Whole) -> u128
     ensures { result ≡ min (span msb lsb) (2 ^ 128 - 1) }
 {
     if msb.negative {

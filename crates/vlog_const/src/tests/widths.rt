@@ -1,6 +1,7 @@
 //! Widths, signs and contexts.
 use super::Step::{Before, Between, Choose, Copy, Join, Name, S, U};
-use super::{Row, first_wrong};
+use super::{Row, expression, first_wrong, names, shown};
+use crate::{ConstValue, Shape, Whole, value_in};
 use std::test::Fail;
 use vlog_tree::Binary::{
     Add, And, Equal, Less, Multiply, Or, Power, ShiftLeft, ShiftRight, Subtract,
@@ -103,5 +104,46 @@ fn widths_and_signs_are_the_standards(rt: HostRuntime) -> Result<(), Fail> {
     assert_eq!(rt; first_wrong(rt.alloc(), 0, &ALONE)?, None);
     assert_eq!(rt; first_wrong(rt.alloc(), 0, &JOINED)?, None);
     assert_eq!(rt; first_wrong(rt.alloc(), 9, &WITHIN)?, None);
+    Ok(())
+}
+
+// 4'sd15 in contexts of a width and a sign
+const INSIDE: [(u32, bool, &'static str); 4] = [
+    (9, false, "9u15"),
+    (9, true, "9s511"),
+    (3, true, "3s7"),
+    (129, true, "TooWide 1"),
+];
+
+#[test]
+fn a_context_is_taken_as_it_is(rt: HostRuntime) -> Result<(), Fail> {
+    let alloc = rt.alloc();
+    let env = names(alloc)?;
+    let e = expression(alloc, &[S(4, 15)])?;
+    for (width, signed, want) in &INSIDE {
+        let context = Shape {
+            width: *width,
+            signed: *signed,
+        };
+        let got = shown(alloc, value_in(alloc, &e, &env, context))?;
+        assert_eq!(rt; got.as_str(), *want);
+    }
+    Ok(())
+}
+
+#[test]
+fn a_signed_value_is_a_number_below_0(rt: HostRuntime) -> Result<(), Fail> {
+    let low = Whole::of(ConstValue {
+        bits: 15,
+        width: 4,
+        signed: true,
+    });
+    let high = Whole {
+        negative: false,
+        magnitude: 3,
+    };
+    assert!(rt; low.negative && low.magnitude == 1);
+    assert!(rt; low.count() == 0 && high.count() == 3);
+    assert!(rt; high.down_to(low) == 5 && low.down_to(high) == 0);
     Ok(())
 }
