@@ -1,0 +1,14 @@
+pub mod TableLemmas
+pub mod NameLemmas
+pub mod WordLemmas
+pub mod LengthLemmas
+pub mod SelectLemmas
+pub mod ValueLemmas
+pub mod FormLemmas
+pub mod WordForms
+pub mod WidthLemmas
+pub mod DesignLemmas
+pub mod NumberLemmas
+pub mod KeptWords
+pub mod KeptValues
+pub mod StateLaws

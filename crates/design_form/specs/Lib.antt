@@ -1,0 +1,10 @@
+pub mod Signals
+pub mod Numbers
+pub mod Tables
+pub mod Bits
+pub mod Gates
+pub mod Selects
+pub mod Values
+pub mod State
+pub mod Extents
+pub mod ValueLaws
