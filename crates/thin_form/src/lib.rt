@@ -27,5 +27,3 @@ pub use netlist::Netlist;
 pub use reader::{one_design, read};
 pub use thin_tree::FormFault;
 
-#[cfg(test)]
-mod tests;
