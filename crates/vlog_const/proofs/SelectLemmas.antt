@@ -1,6 +1,6 @@
 -- Selects that start past 128 bits, and copies.
-use Rattle.std.proofs.Common.{◌≡◌, ℕ, zero, suc, ◌+◌, ◌-◌, ◌*◌, ◌/◌, ◌%◌, ◌^◌, ◌<◌, ◌≤◌, min, Bool, true, false, refl, sym, ap, subst, ◌∙◌, ⊎_elim, add-one, arith}
-use Rattle.std.proofs.Math.Nat.{mod-add-mod, min-eq_left, min-eq_right}
+use Rattle.std.proofs.Common.{◌≡◌, ℕ, ◌+◌, ◌-◌, ◌*◌, ◌%◌, ◌^◌, ◌<◌, ◌≤◌, min, Bool, true, false, sym, ap, ◌∙◌, ⊎_elim, add-one, arith}
+use Rattle.std.proofs.Math.Nat.{mod-add-mod, min-eq_left}
 use Rattle.std.proofs.lemmas.Nat.{mul-mod_first}
 use Rattle.std.proofs.lemmas.Bool.{cases_lt}
 use Rattle.vlog_const.specs.declared.whole.Whole.{Whole}

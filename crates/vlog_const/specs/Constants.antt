@@ -10,7 +10,7 @@ use Rattle.vlog_const.specs.declared.shape.Shape.{Shape}
 use Rattle.vlog_const.specs.declared.answer.ConstValue.{ConstValue}
 use Rattle.vlog_const.specs.Names.{Values}
 use Rattle.vlog_const.specs.Widths.{within}
-use Rattle.vlog_const.specs.Worths.{and_then, Or_fault, ◌>>=◌, Worth, narrow, in_context, alone, is_true, number, named}
+use Rattle.vlog_const.specs.Worths.{Or_fault, ◌>>=◌, Worth, narrow, in_context, alone, is_true, number, named}
 use Rattle.vlog_const.specs.Selects.{index_worth, select_worth, selected, joined, nothing, concat_worth, repeat_worth}
 use Rattle.vlog_const.specs.Operations.{unary_worth, binary_worth, choice_worth}
 

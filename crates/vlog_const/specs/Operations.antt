@@ -13,7 +13,7 @@ use Rattle.vlog_const.specs.declared.answer.ConstFault.TheVariants.{NotConstant,
 use Rattle.vlog_const.specs.Widths.{bit, common, operand_family, family_of, shape_in, left_in, right_in, choice_shape}
 use Rattle.vlog_const.specs.Words.{is_negative, arithmetic, compared, shifted, reduced, sized, logical}
 use Rattle.vlog_tree.specs.declared.operator.Binary.TheVariants as binary
-use Rattle.vlog_const.specs.Worths.{and_then, Or_fault, ◌>>=◌, Worth, in_context, alone, truth}
+use Rattle.vlog_const.specs.Worths.{Or_fault, ◌>>=◌, Worth, in_context, alone, truth}
 
 -- an operator before its operand
 unfoldable pub unary_in : Family → Place → Unary → Worth → Or_fault Worth

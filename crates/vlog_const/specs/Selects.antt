@@ -13,7 +13,7 @@ use Rattle.vlog_const.specs.declared.whole.Whole.{Whole}
 use Rattle.vlog_const.specs.Names.{Values}
 use Rattle.vlog_const.specs.Widths.{bit, unsigned, joined_shape, repeated_shape}
 use Rattle.vlog_const.specs.Words.{low, is_negative, magnitude}
-use Rattle.vlog_const.specs.Worths.{and_then, Or_fault, ◌>>=◌, Worth, fixed, narrow, shape_of, alone, settled, named}
+use Rattle.vlog_const.specs.Worths.{Or_fault, ◌>>=◌, Worth, fixed, narrow, shape_of, alone, settled, named}
 
 -- a number with its sign
 abbrev pub whole : ConstValue → Whole

@@ -10,7 +10,7 @@ use Rattle.vlog_const.specs.declared.term.Term.{Term, fold-Term}
 use Rattle.vlog_const.specs.declared.term.Term.TheOpen.{Term-F}
 use Rattle.vlog_const.specs.declared.operand.Operand.{Operand}
 use Rattle.vlog_const.specs.Words.{extended, sized, shifted}
-use Rattle.vlog_const.specs.Worths.{Or_fault, and_then, ◌>>=◌, Worth}
+use Rattle.vlog_const.specs.Worths.{Or_fault, ◌>>=◌, Worth}
 use Rattle.vlog_const.specs.Operations.{divided}
 
 -- in a context, from its parts

@@ -8,7 +8,7 @@
 --     choice_shape a b, joined_shape a b, repeated_shape n a    the same of `?:`, of `{a, b}` and of `{n{a}}`
 --     unary_context op a c, left_context op a b c, right_context op a b c           its operands' contexts
 --     within w s                                      the context by an assignment to w bits, of an expression of shape s
-use Rattle.std.specs.Prelude.{ℕ, ◌+◌, ◌*◌, max, Bool, false, ◌&&◌}
+use Rattle.std.specs.Prelude.{ℕ, ◌+◌, ◌*◌, max, false, ◌&&◌}
 use Rattle.vlog_tree.specs.declared.operator.Unary.{Unary}
 use Rattle.vlog_tree.specs.declared.operator.Unary.TheVariants as unary
 use Rattle.vlog_tree.specs.declared.operator.Binary.{Binary}

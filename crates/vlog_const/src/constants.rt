@@ -2,14 +2,14 @@
 ghost use Rattle.std.specs.Prelude.{◌≡◌, ◌≤◌, IfOk, map};
 ghost use Rattle.vlog_const.specs.Names.{values_of};
 ghost use Rattle.vlog_const.specs.Widths.{unsigned};
-ghost use Rattle.vlog_const.specs.Worths.{fixed, is_true, named, number};
+ghost use Rattle.vlog_const.specs.Worths.{alone, and_then, fixed, is_true, named, number};
 ghost use Rattle.vlog_const.specs.Selects.{joined, nothing, selected};
 ghost use Rattle.vlog_const.specs.Constants.{value_in, value_of, value_within, worth};
 ghost use Rattle.vlog_const.specs.Terms.{Answers, worth_of};
 
 use crate::answer::{ConstFault, ConstValue};
 use crate::env::Env;
-use crate::operand::{Operand, binary, choice, fixed, settled, unary};
+use crate::operand::{Operand, between, chosen, fixed, settled, unary};
 use crate::selects::{beside, index, repeat, select};
 use crate::shape::Shape;
 use rdc_outside::Place;
@@ -66,29 +66,25 @@ fn operand(alloc: Global, e: &Expr, env: &Env) -> Result<Operand, ConstFault>
         Expr::Name(place, name) => named(*place, name.as_slice(), env),
         Expr::Index(place, name, at) => {
             let value = selected(*place, name.as_slice(), env)?;
-            let at = operand(alloc, at.get(), env)?.alone()?;
+            let at = alone(alloc, at.get(), env)?;
             Ok(index(*place, value, at))
         }
         Expr::Select(place, name, part, first, second) => {
             let value = selected(*place, name.as_slice(), env)?;
-            let first = operand(alloc, first.get(), env)?.alone()?;
-            let second = operand(alloc, second.get(), env)?.alone()?;
+            let first = alone(alloc, first.get(), env)?;
+            let second = alone(alloc, second.get(), env)?;
             select(*place, value, *part, first, second)
         }
         Expr::Brackets(place, inner) => {
-            let Operand { shape, term, .. } = operand(alloc, inner.get(), env)?;
-            Ok(Operand {
-                place: *place,
-                shape,
-                term,
-            })
+            let inner = operand(alloc, inner.get(), env)?;
+            Ok(inner.at(*place))
         }
         Expr::Concat(place, members) => {
             let value = joined(alloc, *place, members.as_slice(), env)?;
             Ok(concat(*place, value))
         }
         Expr::Repeat(place, count, members) => {
-            let count = operand(alloc, count.get(), env)?.alone()?;
+            let count = alone(alloc, count.get(), env)?;
             let value = joined(alloc, *place, members.as_slice(), env)?;
             repeat(*place, count, value)
         }
@@ -97,17 +93,27 @@ fn operand(alloc: Global, e: &Expr, env: &Env) -> Result<Operand, ConstFault>
             unary(alloc, *place, *op, inner)
         }
         Expr::Binary(place, op, left, right) => {
-            let left = operand(alloc, left.get(), env)?;
-            let right = operand(alloc, right.get(), env)?;
-            binary(alloc, *place, *op, left, right)
+            let left = operand(alloc, left.get(), env);
+            let right = operand(alloc, right.get(), env);
+            between(alloc, *place, *op, left, right)
         }
         Expr::Conditional(place, test, left, right) => {
-            let test = operand(alloc, test.get(), env)?.alone()?;
-            let left = operand(alloc, left.get(), env)?;
-            let right = operand(alloc, right.get(), env)?;
-            choice(alloc, *place, is_true(test), left, right)
+            let first = is_true(alone(alloc, test.get(), env)?);
+            let left = operand(alloc, left.get(), env);
+            let right = operand(alloc, right.get(), env);
+            chosen(alloc, *place, first, left, right)
         }
     }
+}
+
+/// The value of a part that stands by itself.
+#[cycle(parts)]
+#[tactic(auto, unfolding(crate::specs::Worths::and_then))]
+fn alone(alloc: Global, e: &Expr, env: &Env) -> Result<ConstValue, ConstFault>
+    ensures value { Answers (λ v. v) result (and_then (worth (values_of env.now) e.now) alone) }
+    ensures bound { IfOk result (λ v. v.width ≤ 128) }
+{
+    operand(alloc, e, env)?.alone()
 }
 
 /// Members side by side, the first one leftmost.

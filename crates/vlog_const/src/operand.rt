@@ -1,8 +1,9 @@
 //! What an expression is by itself, and what operators make of it.
 ghost use Rattle.std.specs.Prelude.{◌≡◌, ◌≤◌, IfOk, Ok};
 ghost use Rattle.vlog_const.specs.Widths.{common};
-ghost use Rattle.vlog_const.specs.Worths.{alone, fixed, in_context, narrow, settled, shape_of, truth};
-ghost use Rattle.vlog_const.specs.Operations.{amount, binary_worth, choice_worth, unary_worth};
+ghost use Rattle.vlog_const.specs.Worths.{Or_fault, Worth, alone, and_then, fixed, in_context, narrow, settled, shape_of, truth};
+ghost use Rattle.vlog_const.specs.declared.shape.Family.TheVariants.{Alone, Compared, Contextual, Leading};
+ghost use Rattle.vlog_const.specs.Operations.{binary_in, amount, binary_worth, choice_worth, unary_worth};
 ghost use Rattle.vlog_const.specs.Terms.{Answers, worth_of};
 
 use crate::answer::{ConstFault, ConstValue};
@@ -107,6 +108,15 @@ impl Operand {
     {
         self.in_context(self.shape)
     }
+
+    /// The same behind another first token.
+    pub(crate) fn at(self, place: Place) -> Operand
+        ensures value { worth_of result ≡ record (worth_of self) { place = place } }
+        ensures bound { result.shape ≡ self.shape }
+    {
+        let Operand { shape, term, .. } = self;
+        Operand { place, shape, term }
+    }
 }
 
 /// An operator before its operand.
@@ -145,8 +155,85 @@ fn amount(op: Binary, place: Place, count: ConstValue) -> Result<u128, ConstFaul
     Ok(count.bits)
 }
 
-/// An operator between its operands.
+/// An operator that takes both operands in its context.
+#[tactic(auto, unfolding(crate::specs::Operations::binary_in, crate::specs::Terms::term_value, crate::specs::Terms::term_by_parts))]
+fn contextual(
+    alloc: Global,
+    place: Place,
+    op: Binary,
+    left: Operand,
+    right: Operand,
+) -> Result<Operand, ConstFault>
+    requires left { left.shape.width ≤ 128 }
+    requires right { right.shape.width ≤ 128 }
+    ensures value { Answers worth_of result (binary_in Contextual place op (worth_of left) (worth_of right)) }
+    ensures bound { IfOk result (λ a. a.shape.width ≤ 128) }
+{
+    let shape = common(left.shape, right.shape);
+    let a = Boxed::new(alloc, left.term)?;
+    let b = Boxed::new(alloc, right.term)?;
+    let term = Term::Binary(op, right.place, a, b);
+    Ok(Operand { place, shape, term })
+}
+
+/// A comparison of both operands in their common shape.
+#[tactic(auto, unfolding(crate::specs::Operations::binary_in, crate::specs::Worths::and_then))]
+fn comparison(
+    place: Place,
+    op: Binary,
+    left: &Operand,
+    right: &Operand,
+) -> Result<Operand, ConstFault>
+    requires left { left.now.shape.width ≤ 128 }
+    requires right { right.now.shape.width ≤ 128 }
+    ensures value { Answers worth_of result (binary_in Compared place op (worth_of left.now) (worth_of right.now)) }
+    ensures bound { IfOk result (λ a. a.shape.width ≤ 128) }
+{
+    let shape = common(left.shape, right.shape);
+    let a = left.in_context(shape)?;
+    let b = right.in_context(shape)?;
+    Ok(truth(place, compared(op, shape, a.bits, b.bits)))
+}
+
+/// `&&` and `||`, each operand by itself.
+#[tactic(auto, unfolding(crate::specs::Operations::binary_in, crate::specs::Worths::and_then, crate::specs::Worths::alone))]
+fn connective(
+    place: Place,
+    op: Binary,
+    left: &Operand,
+    right: &Operand,
+) -> Result<Operand, ConstFault>
+    requires left { left.now.shape.width ≤ 128 }
+    requires right { right.now.shape.width ≤ 128 }
+    ensures value { Answers worth_of result (binary_in Alone place op (worth_of left.now) (worth_of right.now)) }
+    ensures bound { IfOk result (λ a. a.shape.width ≤ 128) }
+{
+    let a = left.alone()?;
+    let b = right.alone()?;
+    Ok(truth(place, logical(op, a.bits, b.bits)))
+}
+
+/// A shift or a power, by an amount that stands by itself.
 #[tactic(auto, unfolding(crate::specs::Operations::binary_in, crate::specs::Worths::and_then, crate::specs::Worths::alone, crate::specs::Terms::term_value, crate::specs::Terms::term_by_parts))]
+fn leading(
+    alloc: Global,
+    place: Place,
+    op: Binary,
+    left: Operand,
+    right: &Operand,
+) -> Result<Operand, ConstFault>
+    requires left { left.shape.width ≤ 128 }
+    requires right { right.now.shape.width ≤ 128 }
+    ensures value { Answers worth_of result (binary_in Leading place op (worth_of left) (worth_of right.now)) }
+    ensures bound { IfOk result (λ a. a.shape.width ≤ 128) }
+{
+    let Operand { shape, term, .. } = left;
+    let count = amount(op, right.place, right.alone()?)?;
+    let term = Term::Shift(op, Boxed::new(alloc, term)?, count);
+    Ok(Operand { place, shape, term })
+}
+
+/// An operator between its operands.
 pub(crate) fn binary(
     alloc: Global,
     place: Place,
@@ -159,33 +246,11 @@ pub(crate) fn binary(
     ensures value { Answers worth_of result (binary_worth place op (worth_of left) (worth_of right)) }
     ensures bound { IfOk result (λ a. a.shape.width ≤ 128) }
 {
-    let shape = common(left.shape, right.shape);
     match family(op) {
-        Family::Contextual => {
-            let a = Boxed::new(alloc, left.term)?;
-            let b = Boxed::new(alloc, right.term)?;
-            let term = Term::Binary(op, right.place, a, b);
-            Ok(Operand { place, shape, term })
-        }
-        Family::Compared => {
-            let a = left.in_context(shape)?;
-            let b = right.in_context(shape)?;
-            Ok(truth(place, compared(op, shape, a.bits, b.bits)))
-        }
-        Family::Alone => {
-            let a = left.alone()?;
-            let b = right.alone()?;
-            Ok(truth(place, logical(op, a.bits, b.bits)))
-        }
-        Family::Leading => {
-            let count = amount(op, right.place, right.alone()?)?;
-            let term = Term::Shift(op, Boxed::new(alloc, left.term)?, count);
-            Ok(Operand {
-                place,
-                shape: left.shape,
-                term,
-            })
-        }
+        Family::Contextual => contextual(alloc, place, op, left, right),
+        Family::Compared => comparison(place, op, &left, &right),
+        Family::Alone => connective(place, op, &left, &right),
+        Family::Leading => leading(alloc, place, op, left, &right),
     }
 }
 
@@ -208,4 +273,42 @@ pub(crate) fn choice(
     let b = Boxed::new(alloc, right.term)?;
     let term = Term::Choice(first, a, b);
     Ok(Operand { place, shape, term })
+}
+
+/// An operator between what its operands gave, of which the left one's fault is answered first.
+#[tactic(auto, unfolding(crate::specs::Worths::and_then))]
+pub(crate) fn between(
+    alloc: Global,
+    place: Place,
+    op: Binary,
+    left: Result<Operand, ConstFault>,
+    right: Result<Operand, ConstFault>,
+) -> Result<Operand, ConstFault>
+    requires left { IfOk left (λ a. a.shape.width ≤ 128) }
+    requires right { IfOk right (λ b. b.shape.width ≤ 128) }
+    ensures value { (l r : Or_fault Worth) → Answers worth_of left l → Answers worth_of right r → Answers worth_of result (and_then l (λ a. and_then r (binary_worth place op a))) }
+    ensures bound { IfOk result (λ a. a.shape.width ≤ 128) }
+{
+    let left = left?;
+    let right = right?;
+    binary(alloc, place, op, left, right)
+}
+
+/// `?:` with its test decided, between what its sides gave, of which the first one's fault is answered first.
+#[tactic(auto, unfolding(crate::specs::Worths::and_then))]
+pub(crate) fn chosen(
+    alloc: Global,
+    place: Place,
+    first: bool,
+    left: Result<Operand, ConstFault>,
+    right: Result<Operand, ConstFault>,
+) -> Result<Operand, ConstFault>
+    requires left { IfOk left (λ a. a.shape.width ≤ 128) }
+    requires right { IfOk right (λ b. b.shape.width ≤ 128) }
+    ensures value { (l r : Or_fault Worth) → Answers worth_of left l → Answers worth_of right r → Answers worth_of result (and_then l (λ a. and_then r (λ b. Ok (choice_worth place first a b)))) }
+    ensures bound { IfOk result (λ a. a.shape.width ≤ 128) }
+{
+    let left = left?;
+    let right = right?;
+    choice(alloc, place, first, left, right)
 }
