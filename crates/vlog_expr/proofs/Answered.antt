@@ -61,14 +61,14 @@ unfolding first
 no_first l rest e = cc
 
 -- what is read goes on with nothing
-read_ends : (pre rest : List Lexeme) (y : Expr) → expr 255 0 (pre ++ rest) ≡ (Ok y, rest) → (rest ≡ []) ⊎ NoneBegins pre rest
-read_ends pre [] y h = inl refl
-read_ends pre (l ∷ rest) y h = inr (λ vs x spelled alike.
-    let s = stepped 255 (pre ++ l ∷ rest) (Ok y) (l ∷ rest) h in
+pub read_ends : (d : ℕ) (pre rest : List Lexeme) (y : Expr) → expr d 0 (pre ++ rest) ≡ (Ok y, rest) → (rest ≡ []) ⊎ NoneBegins pre rest
+read_ends d pre [] y h = inl refl
+read_ends d pre (l ∷ rest) y h = inr (λ vs x spelled alike.
+    let s = stepped d (pre ++ l ∷ rest) (Ok y) (l ∷ rest) h in
     let front : s.pre ≡ pre = append_cancel_right s.pre pre (l ∷ rest) (sym s.parts) in
-    let here : expr 255 0 (pre ++ vs) ≡ (Ok y, vs) = ap (λ z. expr 255 0 (z ++ vs)) (sym front) ∙ s.same vs alike in
-    let most = max 255 (depth x) in
-    let there = same_deeper 255 most (omega arith) (pre ++ vs) (Ok y) vs here refl in
+    let here : expr d 0 (pre ++ vs) ≡ (Ok y, vs) = ap (λ z. expr d 0 (z ++ vs)) (sym front) ∙ s.same vs alike in
+    let most = max d (depth x) in
+    let there = same_deeper d most (omega arith) (pre ++ vs) (Ok y) vs here refl in
     let whole = whole_read most (pre ++ vs) x spelled (omega arith) in
     let none : vs ≡ [] = ap (λ o. o.1) (sym there ∙ whole) in
     no_first l rest (ap first (sym none) ∙ alike))
@@ -84,7 +84,7 @@ answered ls rest x h =
       counted = omega (arith, ap length s.parts, length-append s.taken rest);
       spelled = s.spelled;
       shallow = omega arith;
-      ended = read_ends s.taken rest x (ap (expr 255 0) (sym s.parts) ∙ h);
+      ended = read_ends 255 s.taken rest x (ap (expr 255 0) (sym s.parts) ∙ h);
     }
 
 asks : (l : Lexeme) (rest : List Lexeme) → first (questioned l) ≡ first (l ∷ rest)
@@ -108,7 +108,7 @@ no_next pre l rest x spelled none = by (next_at 0 (Some l)) refl
         let g = after_operator spelled 0 l o found.known (omega arith) (omega arith) in
         absurd (none (l ∷ some_name l.place ∷ []) g.expr g.spelled refl)
 
-no_open : (pre : List Lexeme) (l : Lexeme) (rest : List Lexeme) (x : Expr) → Spells 0 pre x → NoneBegins pre (l ∷ rest) → ends_open x ≡ true → sees (codes "[") (Some l) ≡ false
+pub no_open : (pre : List Lexeme) (l : Lexeme) (rest : List Lexeme) (x : Expr) → Spells 0 pre x → NoneBegins pre (l ∷ rest) → ends_open x ≡ true → sees (codes "[") (Some l) ≡ false
 unfolding sees
 no_open pre l rest x spelled none opens = by (sees (codes "[") (Some l)) refl
   where

@@ -1,3 +1,4 @@
+pub mod MaskLemmas
 pub mod ClimbLemmas
 pub mod Readers
 pub mod ExprSteady
@@ -18,3 +19,5 @@ pub mod Graft
 pub mod Answered
 pub mod ShallowLemmas
 pub mod ParserLemmas
+pub mod StringLemmas
+pub mod PlainLemmas

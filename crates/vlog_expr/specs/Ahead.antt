@@ -1,14 +1,12 @@
 -- What a cursor shows: the lexemes from its next token on.
-use Rattle.std.specs.Prelude.{◌≡◌, ◌+◌, ◌≤◌, ℕ, Bool, if◌then◌else◌, ◌==◌, List, length, refl}
-use Rattle.std.specs.Coded.{Coded, code_by, coded×, coded_ℕ, coded_list}
-use Rattle.vlog_lex.specs.declared.tokens.Kind.{Kind}
-use Rattle.vlog_lex.specs.declared.tokens.Kind.TheVariants.{Identifier, Number, Str, Mark}
+use Rattle.std.specs.Prelude.{◌≡◌, ◌+◌, List, length}
 use Rattle.vlog_lex.specs.Tokens.{AreWithin}
 use Rattle.vlog_tree.specs.Lexemes.{Lexeme, lexemes}
+use Rattle.vlog_expr.specs.Plain.{seen}
 use Rattle.vlog_expr.specs.declared.cursor.Cursor.TheInside.{Inside}
 
 abbrev pub ahead_of : Inside → List Lexeme
-ahead_of c = lexemes c.bytes.now c.places.now c.rest.now
+ahead_of c = seen c.wild (lexemes c.bytes.now c.places.now c.rest.now)
 
 -- each token has its bytes in the text, and each byte its place
 abbrev pub IsInText : Inside → Type 0

@@ -80,15 +80,20 @@ module _ (room : ℕ) (inner : ℕ → Reader Expr) where
   unfoldable pub others : Reader (List Expr)
   others = λ ls. others_from (length ls) ls
 
+  -- "}" "}", behind the members of a replication
+  abbrev pub closed : Place → Expr → List Expr → Reader Expr
+  closed place count members = do
+    expect (codes "}")
+    expect (codes "}")
+    pure (e.Repeat place count members)
+
   -- expr { "," expr } "}" "}", behind the count of a replication and its `{`
   unfoldable pub repeat : Place → Expr → Reader Expr
   repeat place count = do
     advance
     x ← inner 0
     xs ← others
-    expect (codes "}")
-    expect (codes "}")
-    pure (e.Repeat place count (x ∷ xs))
+    closed place count (x ∷ xs)
 
   -- { "," expr } "}", behind the first member
   unfoldable pub concat : Place → Expr → Reader Expr
@@ -144,14 +149,19 @@ module _ (room : ℕ) (inner : ℕ → Reader Expr) where
   unfoldable pub operand : ℕ → Place → Reader Expr
   operand level place = peek (unary_at level) >>= operand_by place
 
+  -- ":" expr, behind the first side of a choice
+  abbrev pub otherwise : Place → Expr → Expr → Reader Expr
+  otherwise place test a = do
+    expect (codes ":")
+    b ← inner 0
+    pure (e.Conditional place test a b)
+
   -- "?" expr ":" expr
   unfoldable pub choice : Place → Expr → Reader Expr
   choice place test = do
     advance
     a ← inner 0
-    expect (codes ":")
-    b ← inner 0
-    pure (e.Conditional place test a b)
+    otherwise place test a
 
   -- the right operand of an operator
   unfoldable pub right : Binary → Reader Expr

@@ -1,4 +1,5 @@
 pub mod Reading
+pub mod Plain
 pub mod Exprs
 pub mod Ahead
 pub mod Nests

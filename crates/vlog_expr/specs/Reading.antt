@@ -2,10 +2,11 @@
 --     first ls                        the lexeme in front
 --     peek g, advance, pure a, stop why, p >>= f, p >> q      readers
 --     sees mark, expect mark          a mark in front
+--     sees_word word, expect_word word        a word in front
 --     Reads outcome result left       what a function that reads ensures
 use Rattle.std.specs.Prelude.{◌≡◌, ◌≢◌, ℕ, Bool, false, if◌then◌else◌, List, [], ◌∷◌, ◌++◌, drop, Option, Some, None, Result, Ok, Err}
 use Rattle.rdc_outside.specs.declared.source.Place.{Place}
-use Rattle.vlog_tree.specs.Lexemes.{Lexeme, mark_of, is_mark}
+use Rattle.vlog_tree.specs.Lexemes.{Lexeme, mark_of, word_of, is_mark, is_word}
 use Rattle.vlog_tree.specs.Names.{name_of}
 use Rattle.vlog_tree.specs.Numbers.{number_of}
 use Rattle.vlog_tree.specs.declared.number.Number.{Number}
@@ -59,6 +60,10 @@ unfoldable pub mark_if : Option Lexeme → List ℕ
 mark_if None = []
 mark_if (Some l) = mark_of l
 
+unfoldable pub word_if : Option Lexeme → List ℕ
+word_if None = []
+word_if (Some l) = word_of l
+
 unfoldable pub name_if : Option Lexeme → Option (List ℕ)
 name_if None = None
 name_if (Some l) = name_of l
@@ -72,9 +77,18 @@ unfoldable pub sees : List ℕ → Option Lexeme → Bool
 sees mark None = false
 sees mark (Some l) = is_mark mark l
 
+-- the lexeme is that word
+unfoldable pub sees_word : List ℕ → Option Lexeme → Bool
+sees_word word None = false
+sees_word word (Some l) = is_word word l
+
 -- past that mark
 unfoldable pub expect : List ℕ → Reader (Unit {0})
 expect mark = peek (sees mark) >>= (λ there. if there then advance else stop Wrong)
+
+-- past that word
+unfoldable pub expect_word : List ℕ → Reader (Unit {0})
+expect_word word = peek (sees_word word) >>= (λ there. if there then advance else stop Wrong)
 
 -- what a function that reads ensures: the reader's outcome, unless memory fails
 abbrev pub Reads : {A : Type 0} → Outcome A → Result A Stuck → List Lexeme → Type 0

@@ -1,9 +1,7 @@
-//! Expressions, production by production (IEEE 1364-2005, A.8). The reader of inner ones is a parameter, so that each
-//! production is proved by itself.
+//! Expressions, production by production (IEEE 1364-2005, A.8), with the reader of inner ones as a parameter.
 
-ghost use Rattle.std.specs.Prelude.{◌+◌, ◌≤◌, IfOk};
-ghost use Rattle.vlog_tree.specs.Depth.{depth, deepest_of};
-ghost use Rattle.vlog_tree.specs.Depth.{depth as depth_of};
+ghost use Rattle.std.specs.Prelude.{◌+◌, ◌≤◌, IfOk, None, Some};
+ghost use Rattle.vlog_tree.specs.Depth.{depth, depth as depth_of, deepest_of};
 ghost use Rattle.vlog_expr.specs.Reading.{Reads, Adds};
 ghost use Rattle.vlog_expr.specs.Exprs as spec;
 ghost use Rattle.vlog_expr.specs.Nests.{Nests};
@@ -14,7 +12,7 @@ use crate::operators::level_of;
 use crate::stuck::Stuck;
 use rdc_outside::{Place, Seq};
 use std::alloc::Global;
-use vlog_tree::Binary;
+use vlog_tree::{Binary, Part};
 
 #[derive(Clone, Copy)]
 pub(crate) struct Grammar<F> {
@@ -26,7 +24,6 @@ pub(crate) struct Grammar<F> {
 }
 
 impl<F: Fn(Global, &mut Cursor<'_>, usize, u8) -> Result<Measured, Stuck>> Grammar<F> {
-    /// A part.
     fn inner(&self, cursor: &mut Cursor<'_>, level: u8) -> Result<Measured, Stuck>
         requires nests { Nests self.now.room (F.pre self.now.expr) (F.post self.now.expr) }
         ensures value { Reads (spec.expr self.now.room level cursor.old) result cursor.new }
@@ -48,8 +45,47 @@ impl<F: Fn(Global, &mut Cursor<'_>, usize, u8) -> Result<Measured, Stuck>> Gramm
         Ok(Measured::brackets(self.alloc, place, inner)?)
     }
 
-    /// [ ":" expr ] "]" behind a name, "[" and an expression
-    #[tactic(auto, unfolding(crate::specs::Exprs::select, crate::specs::Exprs::select_by, crate::specs::Exprs::within), using(vlog_tree::proofs::DepthLemmas::depths))]
+    /// "]" behind a name, "[" and an expression
+    #[tactic(auto, unfolding(crate::specs::Exprs::select_by), using(vlog_tree::proofs::DepthLemmas::depths))]
+    fn index(
+        &self,
+        cursor: &mut Cursor<'_>,
+        place: Place,
+        name: Seq<u8>,
+        first: Measured,
+    ) -> Result<Measured, Stuck>
+        requires nests { Nests self.now.room (F.pre self.now.expr) (F.post self.now.expr) }
+        requires within { depth first ≤ self.now.room }
+        ensures value { Reads (spec.select_by self.now.room (spec.expr self.now.room) place name first None cursor.old) result cursor.new }
+        ensures within { IfOk result (λ x. depth x ≤ self.now.room + 1) }
+    {
+        cursor.expect(b"]")?;
+        Ok(Measured::index(self.alloc, place, name, first)?)
+    }
+
+    /// expr "]" behind the mark of a part
+    #[tactic(auto, unfolding(crate::specs::Exprs::select_by), using(vlog_tree::proofs::DepthLemmas::depths))]
+    fn part(
+        &self,
+        cursor: &mut Cursor<'_>,
+        place: Place,
+        name: Seq<u8>,
+        part: Part,
+        first: Measured,
+    ) -> Result<Measured, Stuck>
+        requires nests { Nests self.now.room (F.pre self.now.expr) (F.post self.now.expr) }
+        requires within { depth first ≤ self.now.room }
+        ensures value { Reads (spec.select_by self.now.room (spec.expr self.now.room) place name first (Some part) cursor.old) result cursor.new }
+        ensures within { IfOk result (λ x. depth x ≤ self.now.room + 1) }
+    {
+        cursor.advance();
+        let second = self.inner(cursor, 0)?;
+        cursor.expect(b"]")?;
+        Ok(Measured::select(self.alloc, place, name, part, first, second)?)
+    }
+
+    /// expr [ ":" expr ] "]" behind a name and "["
+    #[tactic(auto, unfolding(crate::specs::Exprs::select))]
     fn select(
         &self,
         cursor: &mut Cursor<'_>,
@@ -62,14 +98,10 @@ impl<F: Fn(Global, &mut Cursor<'_>, usize, u8) -> Result<Measured, Stuck>> Gramm
     {
         cursor.advance();
         let first = self.inner(cursor, 0)?;
-        let Some(part) = cursor.part() else {
-            cursor.expect(b"]")?;
-            return Ok(Measured::index(self.alloc, place, name, first)?);
-        };
-        cursor.advance();
-        let second = self.inner(cursor, 0)?;
-        cursor.expect(b"]")?;
-        Ok(Measured::select(self.alloc, place, name, part, first, second)?)
+        match cursor.part() {
+            None => self.index(cursor, place, name, first),
+            Some(part) => self.part(cursor, place, name, part, first),
+        }
     }
 
     /// id [ sel ], behind the name
@@ -105,6 +137,26 @@ impl<F: Fn(Global, &mut Cursor<'_>, usize, u8) -> Result<Measured, Stuck>> Gramm
         Ok(())
     }
 
+    /// "}" "}" behind the members of a replication
+    #[tactic(auto, using(vlog_tree::proofs::DepthLemmas::depths))]
+    fn closed(
+        &self,
+        cursor: &mut Cursor<'_>,
+        place: Place,
+        count: Measured,
+        members: MeasuredList,
+    ) -> Result<Measured, Stuck>
+        requires nests { Nests self.now.room (F.pre self.now.expr) (F.post self.now.expr) }
+        requires count { depth count ≤ self.now.room }
+        requires members { deepest_of depth members ≤ self.now.room }
+        ensures value { Reads (spec.closed self.now.room (spec.expr self.now.room) place count members cursor.old) result cursor.new }
+        ensures within { IfOk result (λ x. depth x ≤ self.now.room + 1) }
+    {
+        cursor.expect(b"}")?;
+        cursor.expect(b"}")?;
+        Ok(Measured::repeat(self.alloc, place, count, members)?)
+    }
+
     /// expr { "," expr } "}" "}", behind the count of a replication
     #[tactic(auto, unfolding(crate::specs::Exprs::repeat), using(vlog_tree::proofs::DepthLemmas::depths))]
     fn repeat(
@@ -122,9 +174,7 @@ impl<F: Fn(Global, &mut Cursor<'_>, usize, u8) -> Result<Measured, Stuck>> Gramm
         let first = self.inner(cursor, 0)?;
         let mut members = MeasuredList::of(self.alloc, first)?;
         self.others(cursor, &mut members)?;
-        cursor.expect(b"}")?;
-        cursor.expect(b"}")?;
-        Ok(Measured::repeat(self.alloc, place, count, members)?)
+        self.closed(cursor, place, count, members)
     }
 
     /// { "," expr } "}", behind the first member
@@ -230,6 +280,26 @@ impl<F: Fn(Global, &mut Cursor<'_>, usize, u8) -> Result<Measured, Stuck>> Gramm
         Ok(Measured::unary(self.alloc, place, op, operand)?)
     }
 
+    /// ":" expr, behind the first side
+    #[tactic(auto, using(vlog_tree::proofs::DepthLemmas::depths))]
+    fn otherwise(
+        &self,
+        cursor: &mut Cursor<'_>,
+        place: Place,
+        test: Measured,
+        yes: Measured,
+    ) -> Result<Measured, Stuck>
+        requires nests { Nests self.now.room (F.pre self.now.expr) (F.post self.now.expr) }
+        requires test { depth test ≤ self.now.room }
+        requires yes { depth yes ≤ self.now.room }
+        ensures value { Reads (spec.otherwise self.now.room (spec.expr self.now.room) place test yes cursor.old) result cursor.new }
+        ensures within { IfOk result (λ x. depth x ≤ self.now.room + 1) }
+    {
+        cursor.expect(b":")?;
+        let no = self.inner(cursor, 0)?;
+        Ok(Measured::conditional(self.alloc, place, test, yes, no)?)
+    }
+
     /// "?" expr ":" expr, behind the test
     #[tactic(auto, unfolding(crate::specs::Exprs::choice), using(vlog_tree::proofs::DepthLemmas::depths))]
     fn choice(
@@ -245,9 +315,7 @@ impl<F: Fn(Global, &mut Cursor<'_>, usize, u8) -> Result<Measured, Stuck>> Gramm
     {
         cursor.advance();
         let yes = self.inner(cursor, 0)?;
-        cursor.expect(b":")?;
-        let no = self.inner(cursor, 0)?;
-        Ok(Measured::conditional(self.alloc, place, test, yes, no)?)
+        self.otherwise(cursor, place, test, yes)
     }
 
     /// The right operand of an operator.

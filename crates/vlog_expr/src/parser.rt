@@ -25,7 +25,7 @@ const DEPTH: usize = 255;
 
 /// The place of the token in front, or the text's end.
 #[tactic(auto, unfolding(crate::specs::Begins::named_place, crate::specs::Reading::first, vlog_tree::specs::Lexemes::place_at, vlog_tree::specs::Lexemes::lexeme))]
-fn place_of(bytes: &[u8], places: &[Place], rest: &[Token]) -> Place
+pub fn place_of(bytes: &[u8], places: &[Place], rest: &[Token]) -> Place
     requires places { length places.now ≡ length bytes.now + 1 }
     requires within { AreWithin (length bytes.now) rest.now }
     ensures { result ≡ named_place (place_at places.now (length bytes.now)) (first (lexemes bytes.now places.now rest.now)) }
@@ -63,7 +63,7 @@ fn refuses(bytes: &[u8], places: &[Place], pre: &[Token], token: Token) -> bool
 
 /// The fault where the token in front of the rest is wrong.
 #[tactic(auto, unfolding(crate::specs::Begins::fault_of, crate::specs::Begins::refusal, crate::specs::Begins::named_place, crate::specs::Reading::first, vlog_tree::specs::Lexemes::lexeme))]
-fn wrong_at(
+pub fn wrong_at(
     alloc: Global,
     bytes: &[u8],
     places: &[Place],

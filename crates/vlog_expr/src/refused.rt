@@ -138,12 +138,7 @@ pub(crate) fn is_refused_behind(before: Kind, word: &[u8], kind: Kind, bytes: &[
 
 /// The token is refused by name, behind the one before it.
 #[tactic(auto, unfolding(vlog_tree::specs::Refused::is_refused, vlog_tree::specs::Refused::is_refused_alone, vlog_tree::specs::Refused::is_refused_behind, vlog_tree::specs::Numbers::has_x, vlog_tree::specs::Numbers::has_z, vlog_tree::specs::Lexemes::is_mark, vlog_tree::specs::Lexemes::lexeme))]
-pub(crate) fn is_refused(
-    bytes: &[u8],
-    places: &[Place],
-    before: Option<Token>,
-    token: Token,
-) -> bool
+pub fn is_refused(bytes: &[u8], places: &[Place], before: Option<Token>, token: Token) -> bool
     requires order { token.from ≤ token.to }
     requires within { token.to ≤ length bytes.now }
     requires behind { IfSome before (λ t. (t.from ≤ t.to) × (t.to ≤ length bytes.now)) }
