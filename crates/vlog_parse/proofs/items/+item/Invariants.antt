@@ -1,0 +1,5 @@
+-- The depth falls.
+use Rattle.vlog_parse.proofs.items.+item.Given as goal
+
+abbrev pub decreases-item : goal.decreases-item
+decreases-item l = l.room
