@@ -1,5 +1,4 @@
 pub mod Unique
-pub mod Trees
 pub mod Moving
 pub mod Designed
 pub mod Lawful

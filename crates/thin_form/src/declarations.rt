@@ -39,8 +39,7 @@ fn all<'a>(alloc: Global, parsed: &Module<'a>) -> Result<Vec<Declared<'a>>, Allo
     ensures { IfOk result (λ v. all_declared v.items ≡ declared (a_module parsed.now)) }
 {
     let mut out = Vec::new(alloc);
-    out.push(parsed.first)?;
-    out.extend_from_slice(&parsed.others)?;
+    out.extend_from_slice(&parsed.ports)?;
     push_declared(&mut out, &parsed.items)?;
     Ok(out)
 }

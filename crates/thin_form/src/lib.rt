@@ -26,6 +26,3 @@ pub use kind::{Bit, Flop, Kind, Node};
 pub use netlist::Netlist;
 pub use reader::{one_design, read};
 pub use thin_tree::FormFault;
-
-#[cfg(test)]
-mod tests;

@@ -1,13 +1,5 @@
-pub mod Productions
-pub mod Again
-pub mod Chains
-pub mod Levels
-pub mod Spelled
-pub mod Reread
 pub mod Pushed
-pub mod Runs
-pub mod Readings
-pub mod Parts
+pub mod Gathered
+pub mod Named
 pub mod Sizes
-pub mod Faults
-pub mod Found
+pub mod ItemSizes

@@ -1,67 +1,148 @@
--- Tokens are no fewer than the names and steps of the tree that they write.
-use Rattle.std.proofs.Common.{◌≡◌, ℕ, ◌+◌, ◌<◌, ◌≤◌, List, [], ◌∷◌, ◌++◌, length, length-append, Result, Ok, Err, ap, arith}
-use Rattle.std.specs.List.{flat_map}
-use Rattle.std.specs.Prelude.{IfOk, codes}
-use Rattle.thin_tree.specs.Tree.{Expr, Name, Brackets, Not, And, Or, Declared, Assignment, Process, Item, Wire, Reg, Assign, Always, Module}
+-- A source of the form has at least as many lexemes as it declares names and takes steps.
+use Rattle.std.proofs.Common.{◌≡◌, ℕ, ◌+◌, ◌≤◌, Bool, true, false, ◌&&◌, List, [], ◌∷◌, ◌++◌, length, Option, Some, None, refl, sym, ap, ◌∙◌, subst, length-append, arith}
+use Rattle.std.specs.Option.{option_map}
+use Rattle.rdc_outside.specs.declared.source.Place.{Place}
+use Rattle.vlog_tree.specs.declared.ident.Ident.{Ident}
+use Rattle.vlog_tree.specs.declared.number.Number as numbers
+use Rattle.vlog_tree.specs.declared.operator.Unary as unaries
+use Rattle.vlog_tree.specs.declared.operator.Unary.TheVariants as unary
+use Rattle.vlog_tree.specs.declared.operator.Binary as binaries
+use Rattle.vlog_tree.specs.declared.operator.Binary.TheVariants as binary
+use Rattle.vlog_tree.specs.declared.expr.Part.{Part}
+use Rattle.vlog_tree.specs.declared.expr.Expr.{Expr, Expr-F, fold-Expr, fold-roll-Expr}
+use Rattle.vlog_tree.specs.declared.expr.Expr.TheVariants as e
+use Rattle.vlog_tree.specs.Lexemes.{Lexeme, start}
+use Rattle.vlog_tree.specs.Expressions as spells
+use Rattle.vlog_tree.specs.Expressions.{Spells}
+use Rattle.thin_tree.specs.Tree as tree
 use Rattle.thin_tree.specs.Postfix.{postfix, brackets, negation, both, either}
-use Rattle.thin_tree.specs.Spelling.{expression, direction, port, further_port, ports, control, test, clearing, loading, process, assignment, item, spelling}
-use Rattle.thin_tree.specs.Grammar.{declared_by, declared_in, steps_of, steps_in, size, IsTree}
+use Rattle.thin_tree.specs.Form.{and_then, inverted, joined, said, said_by_parts}
 
-steps_few : (e : Expr) → length (postfix e) ≤ length (expression e)
-steps_few (Name t) = omega arith
-steps_few (Brackets e) = omega (arith, steps_few e, length-append (postfix e) (brackets ∷ []), length-append (expression e) (codes ")" ∷ []))
-steps_few (Not e) = omega (arith, steps_few e, length-append (postfix e) (negation ∷ []))
-steps_few (And a b) = omega (arith, steps_few a, steps_few b, length-append (postfix a) (postfix b ++ both ∷ []), length-append (postfix b) (both ∷ []), length-append (expression a) (codes "&" ∷ expression b))
-steps_few (Or a b) = omega (arith, steps_few a, steps_few b, length-append (postfix a) (postfix b ++ either ∷ []), length-append (postfix b) (either ∷ []), length-append (expression a) (codes "|" ∷ expression b))
+-- what is said of each form of expression
+said-Number : (place : Place) (n : numbers.Number) → said (e.Number place n) ≡ None
+unfolding said said_by_parts
+said-Number place n = ap said (sym (e.rolls-Number place n)) ∙ fold-roll-Expr (Option tree.Expr) said_by_parts (Expr-F.Number place n)
 
-port_some : (p : Declared) → 0 < length (port p)
-unfolding port
-port_some p = omega (arith, length-append (direction p.class) (p.name ∷ []))
+said-Name : (place : Place) (called : List ℕ) → said (e.Name place called) ≡ Some (tree.Name called)
+unfolding said said_by_parts
+said-Name place called = ap said (sym (e.rolls-Name place called)) ∙ fold-roll-Expr (Option tree.Expr) said_by_parts (Expr-F.Name place called)
 
-further_few : (ps : List Declared) → length ps ≤ length (flat_map further_port ps)
-unfolding further_port
-further_few [] = omega arith
-further_few (p ∷ ps) = omega (arith, further_few ps, length-append (further_port p) (flat_map further_port ps))
+said-Index : (place : Place) (called : List ℕ) (i : Expr) → said (e.Index place called i) ≡ None
+unfolding said said_by_parts
+said-Index place called i = ap said (sym (e.rolls-Index place called i)) ∙ fold-roll-Expr (Option tree.Expr) said_by_parts (Expr-F.Index place called i)
 
-ports_few : (ps : List Declared) → length ps ≤ length (ports ps)
-unfolding ports
-ports_few [] = omega arith
-ports_few (p ∷ ps) = omega (arith, further_few ps, port_some p, length-append (port p) (flat_map further_port ps))
+said-Select : (place : Place) (called : List ℕ) (part : Part) (i j : Expr) → said (e.Select place called part i j) ≡ None
+unfolding said said_by_parts
+said-Select place called part i j = ap said (sym (e.rolls-Select place called part i j)) ∙ fold-roll-Expr (Option tree.Expr) said_by_parts (Expr-F.Select place called part i j)
 
-assignment_few : (a : Assignment) → length (postfix a.value) ≤ length (assignment a)
-unfolding assignment
-assignment_few a = omega (arith, steps_few a.value, length-append (expression a.value) (codes ";" ∷ []))
+said-Brackets : (place : Place) (i : Expr) → said (e.Brackets place i) ≡ option_map tree.Brackets (said i)
+unfolding said said_by_parts
+said-Brackets place i = ap said (sym (e.rolls-Brackets place i)) ∙ fold-roll-Expr (Option tree.Expr) said_by_parts (Expr-F.Brackets place i)
 
-loading_few : (name : List ℕ) (e : Expr) → length (postfix e) ≤ length (loading name e)
-unfolding loading
-loading_few name e = omega (arith, steps_few e, length-append (expression e) (codes ";" ∷ []))
+said-Concat : (place : Place) (es : List Expr) → said (e.Concat place es) ≡ None
+unfolding said said_by_parts
+said-Concat place es = ap said (sym (e.rolls-Concat place es)) ∙ fold-roll-Expr (Option tree.Expr) said_by_parts (Expr-F.Concat place es)
 
-process_few : (p : Process) → length (postfix p.data) ≤ length (process p)
-unfolding process
-process_few p =
-    let k = control p.clock p.falling p.event in
-    let t = test p.negated p.tested in
-    let u = clearing p.cleared p.value in
-    let l = loading p.loaded p.data in
-    omega (arith, loading_few p.loaded p.data, length-append k (t ++ (u ++ l)), length-append t (u ++ l), length-append u l)
+said-Repeat : (place : Place) (c : Expr) (es : List Expr) → said (e.Repeat place c es) ≡ None
+unfolding said said_by_parts
+said-Repeat place c es = ap said (sym (e.rolls-Repeat place c es)) ∙ fold-roll-Expr (Option tree.Expr) said_by_parts (Expr-F.Repeat place c es)
 
-item_few : (i : Item) → length (declared_by i) + steps_of i ≤ length (item i)
-unfolding item
-item_few (Wire name) = omega arith
-item_few (Reg name) = omega arith
-item_few (Assign a) = omega (arith, assignment_few a)
-item_few (Always p) = omega (arith, process_few p)
+said-Unary : (place : Place) (op : unaries.Unary) (u : Expr) → said (e.Unary place op u) ≡ inverted op (said u)
+unfolding said said_by_parts
+said-Unary place op u = ap said (sym (e.rolls-Unary place op u)) ∙ fold-roll-Expr (Option tree.Expr) said_by_parts (Expr-F.Unary place op u)
 
-items_few : (its : List Item) → length (declared_in its) + steps_in its ≤ length (flat_map item its)
-items_few [] = omega arith
-items_few (i ∷ its) = omega (arith, items_few its, item_few i, length-append (item i) (flat_map item its), length-append (declared_by i) (declared_in its))
+said-Binary : (place : Place) (op : binaries.Binary) (x y : Expr) → said (e.Binary place op x y) ≡ joined op (said x) (said y)
+unfolding said said_by_parts
+said-Binary place op x y = ap said (sym (e.rolls-Binary place op x y)) ∙ fold-roll-Expr (Option tree.Expr) said_by_parts (Expr-F.Binary place op x y)
 
-spelling_few : (m : Module) → size m ≤ length (spelling m)
-unfolding spelling
-spelling_few m =
-    omega (arith, length-append m.ports (declared_in m.items), ports_few m.ports, items_few m.items, length-append (ports m.ports) (codes ")" ∷ codes ";" ∷ (flat_map item m.items ++ codes "endmodule" ∷ [])), length-append (flat_map item m.items) (codes "endmodule" ∷ []))
+said-Conditional : (place : Place) (test x y : Expr) → said (e.Conditional place test x y) ≡ None
+unfolding said said_by_parts
+said-Conditional place test x y = ap said (sym (e.rolls-Conditional place test x y)) ∙ fold-roll-Expr (Option tree.Expr) said_by_parts (Expr-F.Conditional place test x y)
 
--- what was read of the tokens is no larger than they are many
-pub few_if : {T E : Type 0} (tree_of : T → Module) (r : Result T E) (ts : List (List ℕ)) (count : ℕ) → length ts ≡ count → IfOk r (λ m. IsTree (tree_of m) × (ts ≡ spelling (tree_of m))) → IfOk r (λ m. size (tree_of m) ≤ count)
-few_if tree_of (Ok m) ts count are tree = omega (arith, are, ap length tree.1, spelling_few (tree_of m))
-few_if tree_of (Err f) ts count are tree = tt
+-- the steps of what is said, if something is
+abbrev pub steps : Option tree.Expr → ℕ
+steps None = 0
+steps (Some t) = length (postfix t)
+
+in_brackets : (o : Option tree.Expr) → steps (option_map tree.Brackets o) ≤ steps o + 1
+in_brackets None = omega arith
+in_brackets (Some t) = omega (arith, length-append (postfix t) (brackets ∷ []))
+
+turned : (o : Option tree.Expr) → steps (option_map tree.Not o) ≤ steps o + 1
+turned None = omega arith
+turned (Some t) = omega (arith, length-append (postfix t) (negation ∷ []))
+
+of_unary : (op : unaries.Unary) (o : Option tree.Expr) → steps (inverted op o) ≤ steps o + 1
+unfolding inverted
+of_unary unary.Plus o = omega arith
+of_unary unary.Minus o = omega arith
+of_unary unary.Not o = omega arith
+of_unary unary.Invert o = turned o
+of_unary unary.ReduceAnd o = omega arith
+of_unary unary.ReduceNand o = omega arith
+of_unary unary.ReduceOr o = omega arith
+of_unary unary.ReduceNor o = omega arith
+of_unary unary.ReduceXor o = omega arith
+of_unary unary.ReduceXnor o = omega arith
+
+of_and : (a b : Option tree.Expr) → steps (joined binary.And a b) ≤ steps a + steps b + 1
+unfolding joined and_then
+of_and None b = omega arith
+of_and (Some s) None = omega arith
+of_and (Some s) (Some t) = omega (arith, length-append (postfix s) (postfix t ++ both ∷ []), length-append (postfix t) (both ∷ []))
+
+of_or : (a b : Option tree.Expr) → steps (joined binary.Or a b) ≤ steps a + steps b + 1
+unfolding joined and_then
+of_or None b = omega arith
+of_or (Some s) None = omega arith
+of_or (Some s) (Some t) = omega (arith, length-append (postfix s) (postfix t ++ either ∷ []), length-append (postfix t) (either ∷ []))
+
+of_binary : (op : binaries.Binary) (a b : Option tree.Expr) → steps (joined op a b) ≤ steps a + steps b + 1
+unfolding joined
+of_binary binary.And a b = of_and a b
+of_binary binary.Or a b = of_or a b
+of_binary binary.Power a b = omega arith
+of_binary binary.Multiply a b = omega arith
+of_binary binary.Divide a b = omega arith
+of_binary binary.Remainder a b = omega arith
+of_binary binary.Add a b = omega arith
+of_binary binary.Subtract a b = omega arith
+of_binary binary.ShiftLeft a b = omega arith
+of_binary binary.ShiftRight a b = omega arith
+of_binary binary.ArithmeticShiftLeft a b = omega arith
+of_binary binary.ArithmeticShiftRight a b = omega arith
+of_binary binary.Less a b = omega arith
+of_binary binary.AtMost a b = omega arith
+of_binary binary.Greater a b = omega arith
+of_binary binary.AtLeast a b = omega arith
+of_binary binary.Equal a b = omega arith
+of_binary binary.NotEqual a b = omega arith
+of_binary binary.CaseEqual a b = omega arith
+of_binary binary.CaseNotEqual a b = omega arith
+of_binary binary.Xor a b = omega arith
+of_binary binary.Xnor a b = omega arith
+of_binary binary.LogicalAnd a b = omega arith
+of_binary binary.LogicalOr a b = omega arith
+
+nothing : (o : Option tree.Expr) (n : ℕ) → o ≡ None → steps o ≤ n
+nothing o n none = omega (arith, ap steps none)
+
+-- an expression takes no more steps than it has lexemes
+pub expr_small : {level : ℕ} {ls : List Lexeme} {x : Expr} → Spells level ls x → steps (said x) ≤ length ls
+expr_small {ls = ls} (spells.number l n is parts x-is) = nothing _ _ (ap said x-is ∙ said-Number (start ls) n)
+expr_small {ls = ls} (spells.name l called is parts x-is) = omega (arith, ap steps (ap said x-is ∙ said-Name (start ls) called), ap length parts)
+expr_small {ls = ls} (spells.index l left right called is i a b c d parts x-is) = nothing _ _ (ap said x-is ∙ said-Index (start ls) called i)
+expr_small {ls = ls} (spells.select l left mark right called part is js i j a b c d f g parts x-is) = nothing _ _ (ap said x-is ∙ said-Select (start ls) called part i j)
+expr_small {ls = ls} (spells.brackets left right is i a s b parts x-is) =
+    let inner = expr_small s in
+    omega (arith, ap steps (ap said x-is ∙ said-Brackets (start ls) i), in_brackets (said i), ap length parts, length-append is (right ∷ []), inner)
+expr_small {ls = ls} (spells.concat left right is es a s b parts x-is) = nothing _ _ (ap said x-is ∙ said-Concat (start ls) es)
+expr_small {ls = ls} (spells.repeat left inner outer right zs is c es a s b t d f parts x-is) = nothing _ _ (ap said x-is ∙ said-Repeat (start ls) c es)
+expr_small {ls = ls} (spells.unary mark op us u low is s parts x-is) =
+    let inner = expr_small s in
+    omega (arith, ap steps (ap said x-is ∙ said-Unary (start ls) op u), of_unary op (said u), ap length parts, inner)
+expr_small {ls = ls} (spells.binary mark op xs ys a b low s is t parts x-is) =
+    let left = expr_small s in
+    let right = expr_small t in
+    omega (arith, ap steps (ap said x-is ∙ said-Binary (start ls) op a b), of_binary op (said a) (said b), ap length parts, length-append xs (mark ∷ ys), left, right)
+expr_small {ls = ls} (spells.conditional question colon xs ys zs test chosen other low s a t b u parts x-is) = nothing _ _ (ap said x-is ∙ said-Conditional (start ls) test chosen other)

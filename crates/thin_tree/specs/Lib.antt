@@ -1,10 +1,6 @@
 pub mod Identifiers
 pub mod Tree
 pub mod Postfix
-pub mod Spelling
 pub mod Grammar
-pub mod Source
+pub mod Form
 pub mod Written
-pub mod Reading
-pub mod Operands
-pub mod Runs

@@ -3,7 +3,8 @@
 --     postfix e             the steps of an expression
 --     expression_of steps   the expression of such a list
 --     IsPostfix steps       the list is the steps of its expression
-use Rattle.std.specs.Prelude.{◌≡◌, ℕ, List, [], ◌∷◌, ◌++◌}
+--     Pushes there before after e     the steps of the expression that is there join those before
+use Rattle.std.specs.Prelude.{◌≡◌, ℕ, Bool, true, false, List, [], ◌∷◌, ◌++◌, Option, Some, None}
 use Rattle.thin_tree.specs.Tree.{Expr, Name, Brackets, Not, And, Or}
 use Rattle.thin_tree.specs.declared.steps.Step as lent
 use Rattle.thin_tree.specs.declared.steps.Step.TheVariants as lent_step
@@ -63,3 +64,8 @@ expression_of steps = last_of (stepped_all steps [])
 -- the list is the steps of its expression
 abbrev pub IsPostfix : List Step → Type 0
 IsPostfix steps = steps ≡ postfix (expression_of steps)
+
+-- the steps of the expression that is there join those before
+abbrev pub Pushes : Bool → List Step → List Step → Option Expr → Type 0
+Pushes there before after None = there ≡ false
+Pushes there before after (Some e) = (there ≡ true) × (after ≡ before ++ postfix e)

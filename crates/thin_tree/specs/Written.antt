@@ -56,4 +56,4 @@ all_items its = map an_item its
 
 -- a module
 abbrev pub a_module : Module → tree.Module
-a_module m = record { name = m.name.now; ports = a_declared m.first ∷ all_declared m.others.items; items = all_items m.items.items }
+a_module m = record { name = m.name.now; ports = all_declared m.ports.items; items = all_items m.items.items }

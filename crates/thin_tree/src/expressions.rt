@@ -1,141 +1,118 @@
-//! Reads expressions, and pushes their steps. Each function has its production above it.
-//!
-//! A function answers the tokens behind what it read, or None where the tokens don't begin so; then some steps may
-//! have been pushed. `depth` is how many pairs of brackets may still stand within each other.
+//! Reads expressions, and pushes their steps.
 
-ghost use Rattle.std.specs.Prelude.{◌≡◌, map, IfOk};
+ghost use Rattle.std.specs.Prelude.{◌≡◌, ◌++◌, map, IfOk, Some, None};
 ghost use Rattle.std.specs.Option.{option_map};
-ghost use Rattle.thin_tree.specs.Postfix.{step_of, expression_of};
-ghost use Rattle.thin_tree.specs.Operands.{primary_at, bracketed_at, unary_at, conjunction_at, disjunction_at, inside, value_at, Pushes};
-ghost use Rattle.thin_tree.specs.Written.{texts};
+ghost use Rattle.thin_tree.specs.Form.{said, name_of, negated, test_of, is_binary, is_bit, bit_of};
+ghost use Rattle.thin_tree.specs.Postfix.{step_of, postfix, expression_of, Pushes};
 
 use crate::steps::{Expression, Step};
-use crate::tokens::{name, word};
 use std::alloc::{AllocError, Global};
+use vlog_tree::{Base, Binary, Expr, Number, Unary};
 
-/// "(" expr ")"
-#[cycle(operands)]
-fn bracketed<'t, 'a>(
-    depth: usize,
-    tokens: &'t [&'a [u8]],
-    steps: &mut Vec<Step<'a>>,
-) -> Result<Option<&'t [&'a [u8]]>, AllocError>
-    ensures { IfOk result (Pushes (map step_of steps.old.items) (map step_of steps.new.items) (bracketed_at (inside depth) (texts tokens.now))) }
+/// Pushes the steps of an expression. Whether it is of the form; where it isn't, some steps may have been pushed.
+#[tactic(auto, unfolding(crate::specs::Form::said, crate::specs::Form::said_by_parts, crate::specs::Form::inverted, crate::specs::Form::joined, crate::specs::Form::and_then))]
+fn push<'a>(e: &'a Expr, steps: &mut Vec<Step<'a>>) -> Result<bool, AllocError>
+    ensures { IfOk result (λ there. Pushes there (map step_of steps.old.items) (map step_of steps.new.items) (said e.now)) }
 {
-    let Some(open) = word(b"(", tokens) else {
-        return Ok(None);
-    };
-    if depth == 0 {
-        return Ok(None);
-    }
-    let Some(behind) = disjunction(depth - 1, open, steps)? else {
-        return Ok(None);
-    };
-    let Some(rest) = word(b")", behind) else {
-        return Ok(None);
-    };
-    steps.push(Step::Brackets)?;
-    Ok(Some(rest))
-}
-
-/// id | "(" expr ")"
-#[cycle(operands)]
-fn primary<'t, 'a>(
-    depth: usize,
-    tokens: &'t [&'a [u8]],
-    steps: &mut Vec<Step<'a>>,
-) -> Result<Option<&'t [&'a [u8]]>, AllocError>
-    ensures { IfOk result (Pushes (map step_of steps.old.items) (map step_of steps.new.items) (primary_at (inside depth) (texts tokens.now))) }
-{
-    let Some((name, rest)) = name(tokens) else {
-        return bracketed(depth, tokens, steps);
-    };
-    steps.push(Step::Name(name))?;
-    Ok(Some(rest))
-}
-
-/// un = [ "~" ] ( id | "(" expr ")" )
-#[cycle(operands)]
-fn unary<'t, 'a>(
-    depth: usize,
-    tokens: &'t [&'a [u8]],
-    steps: &mut Vec<Step<'a>>,
-) -> Result<Option<&'t [&'a [u8]]>, AllocError>
-    ensures { IfOk result (Pushes (map step_of steps.old.items) (map step_of steps.new.items) (unary_at (inside depth) (texts tokens.now))) }
-{
-    let Some(behind) = word(b"~", tokens) else {
-        return primary(depth, tokens, steps);
-    };
-    let Some(rest) = primary(depth, behind, steps)? else {
-        return Ok(None);
-    };
-    steps.push(Step::Not)?;
-    Ok(Some(rest))
-}
-
-/// and = un { "&" un }
-#[cycle(operands)]
-fn conjunction<'t, 'a>(
-    depth: usize,
-    tokens: &'t [&'a [u8]],
-    steps: &mut Vec<Step<'a>>,
-) -> Result<Option<&'t [&'a [u8]]>, AllocError>
-    ensures { IfOk result (Pushes (map step_of steps.old.items) (map step_of steps.new.items) (conjunction_at (inside depth) (texts tokens.now))) }
-{
-    let Some(first) = unary(depth, tokens, steps)? else {
-        return Ok(None);
-    };
-    let mut rest = first;
-    'operands: loop {
-        let Some(behind) = word(b"&", rest) else {
-            return Ok(Some(rest));
-        };
-        let Some(next) = unary(depth, behind, steps)? else {
-            return Ok(None);
-        };
-        steps.push(Step::And)?;
-        rest = next;
+    match e {
+        Expr::Name(_, name) => {
+            steps.push(Step::Name(name.as_slice()))?;
+            Ok(true)
+        }
+        Expr::Brackets(_, inner) => {
+            if !push(inner.get(), steps)? {
+                return Ok(false);
+            }
+            steps.push(Step::Brackets)?;
+            Ok(true)
+        }
+        Expr::Unary(_, Unary::Invert, inner) => {
+            if !push(inner.get(), steps)? {
+                return Ok(false);
+            }
+            steps.push(Step::Not)?;
+            Ok(true)
+        }
+        Expr::Binary(_, Binary::And, left, right) => {
+            if !push(left.get(), steps)? || !push(right.get(), steps)? {
+                return Ok(false);
+            }
+            steps.push(Step::And)?;
+            Ok(true)
+        }
+        Expr::Binary(_, Binary::Or, left, right) => {
+            if !push(left.get(), steps)? || !push(right.get(), steps)? {
+                return Ok(false);
+            }
+            steps.push(Step::Or)?;
+            Ok(true)
+        }
+        _ => Ok(false),
     }
 }
 
-/// expr = and { "|" and }
-#[cycle(operands)]
-fn disjunction<'t, 'a>(
-    depth: usize,
-    tokens: &'t [&'a [u8]],
-    steps: &mut Vec<Step<'a>>,
-) -> Result<Option<&'t [&'a [u8]]>, AllocError>
-    ensures { IfOk result (Pushes (map step_of steps.old.items) (map step_of steps.new.items) (disjunction_at (inside depth) (texts tokens.now))) }
-{
-    let Some(first) = conjunction(depth, tokens, steps)? else {
-        return Ok(None);
-    };
-    let mut rest = first;
-    'operands: loop {
-        let Some(behind) = word(b"|", rest) else {
-            return Ok(Some(rest));
-        };
-        let Some(next) = conjunction(depth, behind, steps)? else {
-            return Ok(None);
-        };
-        steps.push(Step::Or)?;
-        rest = next;
-    }
-}
-
-/// expr ";"
-pub(crate) fn value<'t, 'a>(
-    alloc: Global,
-    tokens: &'t [&'a [u8]],
-) -> Result<Option<(Expression<'a>, &'t [&'a [u8]])>, AllocError>
-    ensures { IfOk result (λ r. option_map (λ x. (expression_of x.0, texts x.1.now)) r ≡ value_at (texts tokens.now)) }
+/// An expression, where it is of the form.
+pub(crate) fn value<'a>(alloc: Global, e: &'a Expr) -> Result<Option<Expression<'a>>, AllocError>
+    ensures { IfOk result (λ r. option_map expression_of r ≡ said e.now) }
 {
     let mut steps = Vec::new(alloc);
-    let Some(behind) = disjunction(255, tokens, &mut steps)? else {
+    if !push(e, &mut steps)? {
         return Ok(None);
-    };
-    let Some(rest) = word(b";", behind) else {
-        return Ok(None);
-    };
-    Ok(Some((Expression::of(steps), rest)))
+    }
+    Ok(Some(Expression::of(steps)))
+}
+
+/// A name.
+#[tactic(auto, unfolding(crate::specs::Form::name_of, crate::specs::Form::name_in))]
+pub(crate) fn name(e: &Expr) -> Option<&[u8]>
+    ensures { option_map (λ n. n.now) result ≡ name_of e.now }
+{
+    match e {
+        Expr::Name(_, name) => Some(name.as_slice()),
+        _ => None,
+    }
+}
+
+/// A name, and whether `!` stands before it.
+#[tactic(auto, unfolding(crate::specs::Form::test_of, crate::specs::Form::test_in, crate::specs::Form::negated))]
+pub(crate) fn test(e: &Expr) -> Option<(bool, &[u8])>
+    ensures { option_map (λ t. (t.0, t.1.now)) result ≡ test_of e.now }
+{
+    match e {
+        Expr::Name(_, name) => Some((false, name.as_slice())),
+        Expr::Unary(_, Unary::Not, inner) => {
+            let name = name(inner.get())?;
+            Some((true, name))
+        }
+        _ => None,
+    }
+}
+
+#[tactic(auto, unfolding(crate::specs::Form::is_binary))]
+fn is_binary(base: Base) -> bool
+    ensures { result ≡ is_binary base }
+{
+    match base {
+        Base::Binary => true,
+        _ => false,
+    }
+}
+
+/// Of one bit, written as such.
+#[tactic(auto, unfolding(crate::specs::Form::is_bit))]
+fn is_bit(n: &Number) -> bool
+    ensures { result ≡ is_bit n.now }
+{
+    n.sized && !n.signed && is_binary(n.base) && n.width == 1 && n.z == 0
+}
+
+/// Whether the number 1'b0 or 1'b1 is the second.
+#[tactic(auto, unfolding(crate::specs::Form::bit_of, crate::specs::Form::bit_in, crate::specs::Form::where_so))]
+pub(crate) fn bit(e: &Expr) -> Option<bool>
+    ensures { result ≡ bit_of e.now }
+{
+    match e {
+        Expr::Number(_, n) => { if is_bit(n) { Some(n.bits != 0) } else { None } }
+        _ => None,
+    }
 }

@@ -1,201 +1,139 @@
-//! Reads the items of a module. Each function has its production above it.
+//! Reads ports and items.
 
 ghost use Rattle.std.specs.Prelude.{◌≡◌, IfOk};
 ghost use Rattle.std.specs.Option.{option_map};
-ghost use Rattle.thin_tree.specs.Reading.{control_at, negation_at, test_at, clearing_at, loaded_at, target_at, declared_at};
-ghost use Rattle.thin_tree.specs.Operands.{assignment_at, process_at, declaration_at, driver_at, item_at};
-ghost use Rattle.thin_tree.specs.Written.{texts, an_assignment, a_process, an_item};
+ghost use Rattle.thin_tree.specs.Form.{is_absent, is_bare, declared_name, class_of, port_of, declared_one, wire_of, assignment_of, item_of};
+ghost use Rattle.thin_tree.specs.Written.{a_declared, an_assignment, an_item};
 
-use crate::expressions::value;
-use crate::tokens::{choice, identifier, name, word};
-use crate::tree::{Assign, Item, Process};
+use crate::expressions::{name, value};
+use crate::identifier::identifies;
+use crate::statements::process;
+use crate::tree::{Assign, Class, Declared, Item};
 use std::alloc::{AllocError, Global};
+use vlog_tree::{Assignment, Direction, Ident, Net, Port, Shape};
 
-/// "always" "@" "(" "posedge" id "or" edge id ")"
-#[tactic(auto, unfolding(crate::specs::Reading::control_at, crate::specs::Reading::and_then))]
-fn control<'t, 'a>(tokens: &'t [&'a [u8]]) -> Option<((&'a [u8], bool, &'a [u8]), &'t [&'a [u8]])>
-    ensures { option_map (λ x. ((x.0.0.now, x.0.1, x.0.2.now), texts x.1.now)) result ≡ control_at (texts tokens.now) }
+/// Neither `signed` nor a range.
+#[tactic(auto, unfolding(crate::specs::Form::is_bare, crate::specs::Form::is_absent))]
+fn is_bare(shape: &Shape) -> bool
+    ensures { result ≡ is_bare shape.now }
 {
-    let rest = word(b"always", tokens)?;
-    let rest = word(b"@", rest)?;
-    let rest = word(b"(", rest)?;
-    let rest = word(b"posedge", rest)?;
-    let (clock, rest) = name(rest)?;
-    let rest = word(b"or", rest)?;
-    let (falling, rest) = choice(b"posedge", b"negedge", rest)?;
-    let (event, rest) = name(rest)?;
-    let rest = word(b")", rest)?;
-    Some(((clock, falling, event), rest))
+    !shape.signed && shape.range.is_none()
 }
 
-/// [ "!" ]
-#[tactic(auto, unfolding(crate::specs::Reading::negation_at))]
-fn negation<'t, 'a>(tokens: &'t [&'a [u8]]) -> (bool, &'t [&'a [u8]])
-    ensures { (result.0, texts result.1.now) ≡ negation_at (texts tokens.now) }
+/// A name that may be declared.
+#[tactic(auto, unfolding(crate::specs::Form::declared_name, crate::specs::Form::where_so))]
+pub(crate) fn declared_name(i: &Ident) -> Option<&[u8]>
+    ensures { option_map (λ n. n.now) result ≡ declared_name i.now }
 {
-    match tokens {
-        [] => (false, tokens),
-        [first, rest @ ..] => {
-            if *first == b"!".as_slice() {
-                (true, rest)
+    let name = i.name.as_slice();
+    if identifies(name) { Some(name) } else { None }
+}
+
+#[tactic(auto, unfolding(crate::specs::Form::class_of))]
+fn class_of(direction: Direction) -> Class
+    ensures { result ≡ class_of direction }
+{
+    match direction {
+        Direction::Input => Class::Input,
+        Direction::Output => Class::Net,
+        Direction::Register => Class::Register,
+    }
+}
+
+/// A port with its direction, of one bit.
+#[tactic(auto, unfolding(crate::specs::Form::port_of, crate::specs::Form::and_then, crate::specs::Form::where_so))]
+pub(crate) fn port(p: &Port) -> Option<Declared<'_>>
+    ensures { option_map a_declared result ≡ port_of p.now }
+{
+    match p {
+        Port::Declared(direction, shape, called) => {
+            let name = declared_name(called)?;
+            let class = class_of(*direction);
+            if is_bare(shape) {
+                Some(Declared { name, class })
             } else {
-                (false, tokens)
+                None
             }
         }
+        Port::Named(_) => None,
     }
 }
 
-/// "if" "(" [ "!" ] id ")"
-#[tactic(auto, unfolding(crate::specs::Reading::test_at, crate::specs::Reading::and_then))]
-fn test<'t, 'a>(tokens: &'t [&'a [u8]]) -> Option<((bool, &'a [u8]), &'t [&'a [u8]])>
-    ensures { option_map (λ x. ((x.0.0, x.0.1.now), texts x.1.now)) result ≡ test_at (texts tokens.now) }
+/// One name, declared with a bare shape.
+#[tactic(auto, unfolding(crate::specs::Form::declared_one, crate::specs::Form::and_then, crate::specs::Form::where_so))]
+fn declared_one<'a>(shape: &Shape, names: &'a [Ident]) -> Option<&'a [u8]>
+    ensures { option_map (λ n. n.now) result ≡ declared_one shape.now names.now }
 {
-    let rest = word(b"if", tokens)?;
-    let rest = word(b"(", rest)?;
-    let (negated, rest) = negation(rest);
-    let (tested, rest) = name(rest)?;
-    let rest = word(b")", rest)?;
-    Some(((negated, tested), rest))
-}
-
-/// id "<=" bit ";"
-#[tactic(auto, unfolding(crate::specs::Reading::clearing_at, crate::specs::Reading::and_then))]
-fn clearing<'t, 'a>(tokens: &'t [&'a [u8]]) -> Option<((&'a [u8], bool), &'t [&'a [u8]])>
-    ensures { option_map (λ x. ((x.0.0.now, x.0.1), texts x.1.now)) result ≡ clearing_at (texts tokens.now) }
-{
-    let (cleared, rest) = name(tokens)?;
-    let rest = word(b"<=", rest)?;
-    let (value, rest) = choice(b"1'b0", b"1'b1", rest)?;
-    let rest = word(b";", rest)?;
-    Some(((cleared, value), rest))
-}
-
-/// "else" id "<="
-#[tactic(auto, unfolding(crate::specs::Reading::loaded_at, crate::specs::Reading::and_then))]
-fn loaded<'t, 'a>(tokens: &'t [&'a [u8]]) -> Option<(&'a [u8], &'t [&'a [u8]])>
-    ensures { option_map (λ x. (x.0.now, texts x.1.now)) result ≡ loaded_at (texts tokens.now) }
-{
-    let rest = word(b"else", tokens)?;
-    let (loaded, rest) = name(rest)?;
-    let rest = word(b"<=", rest)?;
-    Some((loaded, rest))
-}
-
-/// "assign" id "="
-#[tactic(auto, unfolding(crate::specs::Reading::target_at, crate::specs::Reading::and_then))]
-fn target<'t, 'a>(tokens: &'t [&'a [u8]]) -> Option<(&'a [u8], &'t [&'a [u8]])>
-    ensures { option_map (λ x. (x.0.now, texts x.1.now)) result ≡ target_at (texts tokens.now) }
-{
-    let rest = word(b"assign", tokens)?;
-    let (target, rest) = name(rest)?;
-    let rest = word(b"=", rest)?;
-    Some((target, rest))
-}
-
-/// id ";" behind a given word
-#[tactic(auto, unfolding(crate::specs::Reading::declared_at, crate::specs::Reading::and_then))]
-fn declared<'t, 'a>(given: &[u8], tokens: &'t [&'a [u8]]) -> Option<(&'a [u8], &'t [&'a [u8]])>
-    ensures { option_map (λ x. (x.0.now, texts x.1.now)) result ≡ declared_at given.now (texts tokens.now) }
-{
-    let rest = word(given, tokens)?;
-    let (name, rest) = identifier(rest)?;
-    let rest = word(b";", rest)?;
-    Some((name, rest))
-}
-
-/// assignment = "assign" id "=" expr ";"
-#[tactic(auto, unfolding(crate::specs::Operands::assignment_at, crate::specs::Reading::and_then))]
-fn assignment<'t, 'a>(
-    alloc: Global,
-    tokens: &'t [&'a [u8]],
-) -> Result<Option<(Assign<'a>, &'t [&'a [u8]])>, AllocError>
-    ensures { IfOk result (λ r. option_map (λ x. (an_assignment x.0, texts x.1.now)) r ≡ assignment_at (texts tokens.now)) }
-{
-    let Some((target, rest)) = target(tokens) else {
-        return Ok(None);
-    };
-    let Some((value, rest)) = value(alloc, rest)? else {
-        return Ok(None);
-    };
-    Ok(Some((Assign { target, value }, rest)))
-}
-
-/// process = control test clearing "else" id "<=" expr ";"
-#[tactic(auto, unfolding(crate::specs::Operands::process_at, crate::specs::Reading::and_then))]
-fn process<'t, 'a>(
-    alloc: Global,
-    tokens: &'t [&'a [u8]],
-) -> Result<Option<(Process<'a>, &'t [&'a [u8]])>, AllocError>
-    ensures { IfOk result (λ r. option_map (λ x. (a_process x.0, texts x.1.now)) r ≡ process_at (texts tokens.now)) }
-{
-    let Some(((clock, falling, event), rest)) = control(tokens) else {
-        return Ok(None);
-    };
-    let Some(((negated, tested), rest)) = test(rest) else {
-        return Ok(None);
-    };
-    let Some(((cleared, value_bit), rest)) = clearing(rest) else {
-        return Ok(None);
-    };
-    let Some((loaded, rest)) = loaded(rest) else {
-        return Ok(None);
-    };
-    let Some((data, rest)) = value(alloc, rest)? else {
-        return Ok(None);
-    };
-    let process = Process {
-        clock,
-        falling,
-        event,
-        negated,
-        tested,
-        cleared,
-        value: value_bit,
-        loaded,
-        data,
-    };
-    Ok(Some((process, rest)))
-}
-
-/// "wire" id ";" | "reg" id ";"
-#[tactic(auto, unfolding(crate::specs::Operands::declaration_at, crate::specs::Operands::wire_at, crate::specs::Operands::register_at, crate::specs::Reading::and_then, crate::specs::Reading::or_else))]
-fn declaration<'t, 'a>(tokens: &'t [&'a [u8]]) -> Option<(Item<'a>, &'t [&'a [u8]])>
-    ensures { option_map (λ x. (an_item x.0, texts x.1.now)) result ≡ declaration_at (texts tokens.now) }
-{
-    if let Some((name, rest)) = declared(b"wire", tokens) {
-        return Some((Item::Wire(name), rest));
+    match names {
+        [called] => {
+            let name = declared_name(called)?;
+            if is_bare(shape) { Some(name) } else { None }
+        }
+        _ => None,
     }
-    let (name, rest) = declared(b"reg", tokens)?;
-    Some((Item::Reg(name), rest))
 }
 
-/// assignment | process
-#[tactic(auto, unfolding(crate::specs::Operands::driver_at, crate::specs::Operands::assign_at, crate::specs::Operands::always_at, crate::specs::Reading::and_then, crate::specs::Reading::or_else))]
-fn driver<'t, 'a>(
-    alloc: Global,
-    tokens: &'t [&'a [u8]],
-) -> Result<Option<(Item<'a>, &'t [&'a [u8]])>, AllocError>
-    ensures { IfOk result (λ r. option_map (λ x. (an_item x.0, texts x.1.now)) r ≡ driver_at (texts tokens.now)) }
+/// A wire without a driver.
+#[tactic(auto, unfolding(crate::specs::Form::wire_of, crate::specs::Form::and_then, crate::specs::Form::where_so, crate::specs::Form::is_absent))]
+fn wire<'a>(shape: &Shape, nets: &'a [Net]) -> Option<&'a [u8]>
+    ensures { option_map (λ n. n.now) result ≡ wire_of shape.now nets.now }
 {
-    if let Some((assign, rest)) = assignment(alloc, tokens)? {
-        return Ok(Some((Item::Assign(assign), rest)));
+    match nets {
+        [net] => {
+            let name = declared_name(&net.name)?;
+            if is_bare(shape) && net.driver.is_none() {
+                Some(name)
+            } else {
+                None
+            }
+        }
+        _ => None,
     }
-    let Some((process, rest)) = process(alloc, tokens)? else {
-        return Ok(None);
-    };
-    Ok(Some((Item::Always(process), rest)))
 }
 
-/// item = "wire" id ";" | "reg" id ";" | assignment | process
-#[tactic(auto, unfolding(crate::specs::Operands::item_at, crate::specs::Reading::or_else))]
-pub(crate) fn item<'t, 'a>(
+/// One assignment to a name.
+#[tactic(auto, unfolding(crate::specs::Form::assignment_of, crate::specs::Form::and_then))]
+fn assignment<'a>(
     alloc: Global,
-    tokens: &'t [&'a [u8]],
-) -> Result<Option<(Item<'a>, &'t [&'a [u8]])>, AllocError>
-    ensures { IfOk result (λ r. option_map (λ x. (an_item x.0, texts x.1.now)) r ≡ item_at (texts tokens.now)) }
+    assigns: &'a [Assignment],
+) -> Result<Option<Assign<'a>>, AllocError>
+    ensures { IfOk result (λ r. option_map an_assignment r ≡ assignment_of assigns.now) }
 {
-    if let Some(found) = declaration(tokens) {
-        return Ok(Some(found));
+    match assigns {
+        [one] => {
+            let Some(target) = name(&one.target) else {
+                return Ok(None);
+            };
+            let Some(value) = value(alloc, &one.value)? else {
+                return Ok(None);
+            };
+            Ok(Some(Assign { target, value }))
+        }
+        _ => Ok(None),
     }
-    driver(alloc, tokens)
+}
+
+/// An item of the form.
+#[tactic(auto, unfolding(crate::specs::Form::item_of, crate::specs::Form::item_in))]
+pub(crate) fn item<'a>(
+    alloc: Global,
+    i: &'a vlog_tree::Item,
+) -> Result<Option<Item<'a>>, AllocError>
+    ensures { IfOk result (λ r. option_map an_item r ≡ item_of i.now) }
+{
+    match i {
+        vlog_tree::Item::Wires(_, shape, nets) => Ok(wire(shape, nets.as_slice()).map(Item::Wire)),
+        vlog_tree::Item::Registers(_, shape, names) => {
+            Ok(declared_one(shape, names.as_slice()).map(Item::Reg))
+        }
+        vlog_tree::Item::Assign(_, assigns) => {
+            let found = assignment(alloc, assigns.as_slice())?;
+            Ok(found.map(Item::Assign))
+        }
+        vlog_tree::Item::Always(_, control, body) => {
+            let found = process(alloc, control, body)?;
+            Ok(found.map(Item::Always))
+        }
+        _ => Ok(None),
+    }
 }

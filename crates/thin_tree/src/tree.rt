@@ -1,4 +1,4 @@
-//! The tree of a module: what its text writes, names lent by the text.
+//! A module of the form, names lent by the syntax tree.
 
 use crate::steps::Expression;
 
@@ -54,8 +54,6 @@ pub enum Item<'a> {
 #[derive(Drop)]
 pub struct Module<'a> {
     pub name: &'a [u8],
-    /// The first port, and the others.
-    pub first: Declared<'a>,
-    pub others: Vec<Declared<'a>>,
+    pub ports: Vec<Declared<'a>>,
     pub items: Vec<Item<'a>>,
 }
