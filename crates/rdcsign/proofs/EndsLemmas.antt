@@ -17,11 +17,17 @@ use Rattle.vlog_lex.specs.Tokens.{AreTokens, IsFault}
 use Rattle.rdcsign.specs.declared.loading.TheConstants.{MOST}
 use Rattle.rdcsign.specs.Request.{Request, request_of, texts}
 use Rattle.rdcsign.specs.Outcome.{Outcome, Usage, Absent, Read, Source, NotYet, Memory, Judged, status_of, cut_status, Says}
-use Rattle.rdcsign.specs.Faults.{stopped, unread}
-use Rattle.rdcsign.specs.Lexemes.{lexemes}
-use Rattle.rdcsign.specs.Ends.{IsLoaded, IsRefusedLoad, loads_of, load_unless_memory, IsOrMemory, ExpandTo, HasTokens, DeclaresNone, IsJudgement, IsReport, Ends, EndsRequest, at_constraints, at_sources, at_tokens, with_all}
+use Rattle.vlog_lex.specs.declared.tokens.Token.{Token}
+use Rattle.vlog_tree.specs.declared.module.Module.{Module}
+use Rattle.vlog_tree.specs.Lexemes.{Lexeme, lexemes, place_at}
+use Rattle.vlog_parse.specs.declared.fault.ParseFault.{ParseFault}
+use Rattle.vlog_parse.specs.declared.fault.ParseFault.TheVariants as parsing
+use Rattle.vlog_parse.specs.Begins as parse
+use Rattle.rdcsign.specs.Faults.{stopped, unread, unparsed}
+use Rattle.rdcsign.specs.Lexemes.{end_of, lexemes_of}
+use Rattle.rdcsign.specs.Ends.{IsLoaded, IsRefusedLoad, loads_of, load_unless_memory, IsOrMemory, ExpandTo, HaveTokens, IsUnparsed, SpellModules, DeclaresNone, IsJudgement, IsReport, Ends, EndsRequest, at_constraints, at_sources, at_tokens, at_modules, with_all}
 use Rattle.rdcsign.specs.Loads.{with_loads}
-use Rattle.rdcsign.specs.Answers.{EndsText, no_tokens, judged, EndsListed, EndsWords}
+use Rattle.rdcsign.specs.Answers.{EndsText, no_tokens, no_modules, judged, EndsListed, EndsWords}
 use Rattle.rdcsign.specs.Signoff.{IsThere, IsTooBig, AreRead, IsJudgedAs, IsMissing, IsFaulty, IsUnformed, IsCauseFor, IsCauseOf, IsCause}
 
 -- a load and then more loads
@@ -72,6 +78,16 @@ ends_at_sources told later r outcome old mid new constraints stop same loaded an
       listed = listed_behind old mid new r.constraints at.loaded first at.listed;
     }
 
+-- the lexemes of the text are those of what is known
+same_lexemes : {told : Option Files} {files : List (List ℕ)} {loaded : List (List ℕ)} {text : Text} (expansion : IsExpansion told files loaded text) (tokens : List Token) → lexemes text.bytes text.places tokens ≡ lexemes_of expansion.known tokens
+same_lexemes {text = text} expansion tokens = ap (λ (bs : List ℕ). lexemes bs text.places tokens) expansion.is_text.bytes ∙ ap (λ (places : List Place). lexemes expansion.known.bytes places tokens) expansion.is_text.places
+
+same_end : {told : Option Files} {files : List (List ℕ)} {loaded : List (List ℕ)} {text : Text} (expansion : IsExpansion told files loaded text) → place_at text.places (length text.bytes) ≡ end_of expansion.known
+same_end {text = text} expansion = ap (λ (bs : List ℕ). place_at text.places (length bs)) expansion.is_text.bytes ∙ ap (λ (places : List Place). place_at places (length expansion.known.bytes)) expansion.is_text.places
+
+have : (told : Option Files) (r : Request) (loaded : List (List ℕ)) (text : Text) (expansion : IsExpansion told r.files loaded text) (tokens : List Token) → AreTokens 0 text.bytes tokens → HaveTokens told r loaded expansion.known tokens
+have told r loaded text expansion tokens are = record { expand = expansion.expands; are_tokens = subst (λ (bytes : List ℕ). AreTokens 0 bytes tokens) expansion.is_text.bytes are }
+
 -- how what is known at the end of an expansion ends the call
 ends_known : (told : Option Files) (r : Request) (outcome : Outcome) (constraints : List ℕ) (loaded : List (List ℕ)) (text : Text) → IsLoaded told r.constraints constraints → IsExpansion told r.files loaded text
     → EndsText r constraints text outcome → Ends told r outcome (loads_of (r.constraints ∷ loaded))
@@ -80,11 +96,17 @@ ends_known told r outcome constraints loaded text c expansion (no_tokens fault i
     let at_places = subst (λ (places : List Place). IsFault text.bytes places fault) expansion.is_text.places is in
     let is_fault = subst (λ (bytes : List ℕ). IsFault bytes (known.places ++ known.end ∷ []) fault) expansion.is_text.bytes at_places in
     at_tokens constraints loaded known c expansion.expands (record { fault = fault; is_fault = is_fault; outcome_is = subst (λ (fs : List (List ℕ)). IsOrMemory outcome (unread fs fault)) expansion.is_text.files outcome_is }) refl
-ends_known told r outcome constraints loaded text c expansion (judged tokens are is) =
+ends_known told r outcome constraints loaded text c expansion (no_modules tokens fault are is outcome_is) =
     let known = expansion.known in
-    let tokens_are = subst (λ (bytes : List ℕ). AreTokens 0 bytes tokens) expansion.is_text.bytes are in
-    with_all constraints loaded (lexemes text.bytes tokens) c
-    (record { known = known; expand = expansion.expands; tokens = tokens; are_tokens = tokens_are; words_are = ap (λ (bytes : List ℕ). lexemes bytes tokens) expansion.is_text.bytes }) is refl
+    at_modules constraints loaded known tokens c (have told r loaded text expansion tokens are)
+    (record {
+      fault = fault;
+      is_fault = subst (λ (ls : List Lexeme). parse.IsFault (end_of known) ls fault) (same_lexemes expansion tokens) (subst (λ (at : Place). parse.IsFault at (lexemes text.bytes text.places tokens) fault) (same_end expansion) is);
+      outcome_is = subst (λ (fs : List (List ℕ)). IsOrMemory outcome (unparsed fs fault)) expansion.is_text.files outcome_is;
+    }) refl
+ends_known told r outcome constraints loaded text c expansion (judged tokens ms are is judgement) =
+    with_all constraints loaded ms c
+    (record { known = expansion.known; tokens = tokens; have = have told r loaded text expansion tokens are; answer = subst (λ (ls : List Lexeme). parse.IsAnswer ls ms) (same_lexemes expansion tokens) is }) judgement refl
 
 -- it ends with the text of the sources
 pub ends_with_text : (told later : Option Files) (r : Request) (outcome : Outcome) (old mid new : Option Calls) (constraints : List ℕ) (text : Text) → later ≡ told → IsLoaded told r.constraints constraints
@@ -108,12 +130,12 @@ ends_words told words r outcome old new is ends = record {
 there : (files : Files) (name bytes : List ℕ) → IsLoaded (Some files) name bytes → IsThere files name
 there files name bytes loaded = subst (λ (o : Option (List ℕ)). IsSomeAnd o (λ bs. length bs ≤ MOST)) (sym loaded.value) loaded.within
 
-judged_as : (files : Files) (r : Request) (constraints : List ℕ) (loaded source : List (List ℕ)) (report : List ℕ) (crossing : Bool) → IsLoaded (Some files) r.constraints constraints → HasTokens (Some files) r loaded source
-    → IsReport r.top constraints source report crossing → IsJudgedAs crossing files r
-judged_as files r constraints loaded source report crossing c t is = record {
+judged_as : (files : Files) (r : Request) (constraints : List ℕ) (loaded : List (List ℕ)) (ms : List Module) (report : List ℕ) (crossing : Bool) → IsLoaded (Some files) r.constraints constraints → SpellModules (Some files) r loaded ms
+    → IsReport r.top constraints ms report crossing → IsJudgedAs crossing files r
+judged_as files r constraints loaded ms report crossing c t is = record {
   design = is.design;
   roles = is.roles;
-  spelled = record { are_read = record { constraints = constraints; loaded = loaded; source = source; has_constraints = c; has_tokens = t }; of_form = is.of_form };
+  spelled = record { are_read = record { constraints = constraints; loaded = loaded; modules = ms; has_constraints = c; spell = t }; of_form = is.of_form };
   verdict = sym is.verdict;
 }
 
@@ -194,7 +216,7 @@ module _ (files : Files) (r : Request) (loaded : List (List ℕ)) (first : IsThe
     -- a fault of lexing that is one of the source
     faulty_tokens : (fault : LexFault) → Source (details_of (unread known.files fault)) ≡ unread known.files fault → IsFault known.bytes (known.places ++ known.end ∷ []) fault → IsCauseFor files r (status_at (Source (details_of (unread known.files fault))) whole)
     faulty_tokens fault said is =
-        cause_of_source files r (details_of (unread known.files fault)) (first, (details_of (unread known.files fault), (loaded, inr (known, expand, record { fault = fault; is_fault = is; outcome_is = inl said })))) whole
+        cause_of_source files r (details_of (unread known.files fault)) (first, (details_of (unread known.files fault), (loaded, inr (inl (known, expand, record { fault = fault; is_fault = is; outcome_is = inl said }))))) whole
 
     cause_of_unread : (fault : LexFault) → IsFault known.bytes (known.places ++ known.end ∷ []) fault → IsCauseFor files r (status_at (unread known.files fault) whole)
     cause_of_unread lex.Memory is = cause_of_memory files r whole
@@ -203,20 +225,32 @@ module _ (files : Files) (r : Request) (loaded : List (List ℕ)) (first : IsThe
     cause_of_unread (lex.OpenComment place) is = faulty_tokens (lex.OpenComment place) refl is
     cause_of_unread (lex.OpenString place) is = faulty_tokens (lex.OpenString place) refl is
 
-unformed : (files : Files) (r : Request) (constraints : List ℕ) (n : List ℕ) (are : AreRead files r) → are.constraints ≡ constraints → IsJudgement r constraints are.source (NotYet n) → IsUnformed files r
-unformed files r constraints n are same (inl is) = record { are_read = are; unformed = inl is.1 }
-unformed files r constraints n are same (inr is) = record { are_read = are; unformed = inr (subst (λ (c : List ℕ). DeclaresNone r.top c are.source) (sym same) is.1) }
+    module _ (tokens : List Token) (are : HaveTokens (Some files) r loaded known tokens) where
+      -- a fault of parsing that is one of the source
+      faulty_modules : (fault : ParseFault) → Source (details_of (unparsed known.files fault)) ≡ unparsed known.files fault → parse.IsFault (end_of known) (lexemes_of known tokens) fault → IsCauseFor files r (status_at (Source (details_of (unparsed known.files fault))) whole)
+      faulty_modules fault said is =
+          cause_of_source files r (details_of (unparsed known.files fault)) (first, (details_of (unparsed known.files fault), (loaded, inr (inr (known, tokens, are, record { fault = fault; is_fault = is; outcome_is = inl said }))))) whole
 
-cause_with_all : (files : Files) (r : Request) (constraints : List ℕ) (loaded source : List (List ℕ)) (outcome : Outcome) → IsLoaded (Some files) r.constraints constraints → HasTokens (Some files) r loaded source
-    → IsJudgement r constraints source outcome → (whole : Bool) → IsCauseFor files r (status_at outcome whole)
-cause_with_all files r constraints loaded source Usage c t is whole = absurd is
-cause_with_all files r constraints loaded source (Absent n) c t is whole = absurd is
-cause_with_all files r constraints loaded source (Read n) c t is whole = absurd is
-cause_with_all files r constraints loaded source (Source details) c t is whole = absurd is
-cause_with_all files r constraints loaded source (NotYet n) c t is whole =
-    cause_of_notyet files r n (inr (unformed files r constraints n (record { constraints = constraints; loaded = loaded; source = source; has_constraints = c; has_tokens = t }) refl is)) whole
-cause_with_all files r constraints loaded source Memory c t is whole = cause_of_memory files r whole
-cause_with_all files r constraints loaded source (Judged report crossing) c t is whole = cause_of_judged files r report crossing (judged_as files r constraints loaded source report crossing c t is) whole
+      cause_of_unparsed : (fault : ParseFault) → parse.IsFault (end_of known) (lexemes_of known tokens) fault → IsCauseFor files r (status_at (unparsed known.files fault) whole)
+      cause_of_unparsed parsing.Memory is = cause_of_memory files r whole
+      cause_of_unparsed (parsing.Unsupported word place) is = faulty_modules (parsing.Unsupported word place) refl is
+      cause_of_unparsed (parsing.Syntax place) is = faulty_modules (parsing.Syntax place) refl is
+      cause_of_unparsed (parsing.TooDeep place) is = faulty_modules (parsing.TooDeep place) refl is
+
+unformed : (files : Files) (r : Request) (constraints : List ℕ) (n : List ℕ) (are : AreRead files r) → are.constraints ≡ constraints → IsJudgement r constraints are.modules (NotYet n) → IsUnformed files r
+unformed files r constraints n are same (inl is) = record { are_read = are; unformed = inl is.1 }
+unformed files r constraints n are same (inr is) = record { are_read = are; unformed = inr (subst (λ (c : List ℕ). DeclaresNone r.top c are.modules) (sym same) is.1) }
+
+cause_with_all : (files : Files) (r : Request) (constraints : List ℕ) (loaded : List (List ℕ)) (ms : List Module) (outcome : Outcome) → IsLoaded (Some files) r.constraints constraints → SpellModules (Some files) r loaded ms
+    → IsJudgement r constraints ms outcome → (whole : Bool) → IsCauseFor files r (status_at outcome whole)
+cause_with_all files r constraints loaded ms Usage c t is whole = absurd is
+cause_with_all files r constraints loaded ms (Absent n) c t is whole = absurd is
+cause_with_all files r constraints loaded ms (Read n) c t is whole = absurd is
+cause_with_all files r constraints loaded ms (Source details) c t is whole = absurd is
+cause_with_all files r constraints loaded ms (NotYet n) c t is whole =
+    cause_of_notyet files r n (inr (unformed files r constraints n (record { constraints = constraints; loaded = loaded; modules = ms; has_constraints = c; spell = t }) refl is)) whole
+cause_with_all files r constraints loaded ms Memory c t is whole = cause_of_memory files r whole
+cause_with_all files r constraints loaded ms (Judged report crossing) c t is whole = cause_of_judged files r report crossing (judged_as files r constraints loaded ms report crossing c t is) whole
 
 cause_of_ends : (files : Files) (r : Request) (outcome : Outcome) (made : List Call) → Ends (Some files) r outcome made → (whole : Bool) → IsCauseFor files r (status_at outcome whole)
 cause_of_ends files r outcome made (at_constraints is made-is) whole = cause_at_constraints files r outcome is whole
@@ -224,7 +258,9 @@ cause_of_ends files r outcome made (at_sources constraints loaded c is made-is) 
     cause_of_either files r outcome (stopped loaded is.fault) whole is.outcome_is (cause_of_stop files r loaded (there files r.constraints constraints c) whole is.fault is.expands)
 cause_of_ends files r outcome made (at_tokens constraints loaded known c expand is made-is) whole =
     cause_of_either files r outcome (unread known.files is.fault) whole is.outcome_is (cause_of_unread files r loaded (there files r.constraints constraints c) whole known expand is.fault is.is_fault)
-cause_of_ends files r outcome made (with_all constraints loaded source c t is made-is) whole = cause_with_all files r constraints loaded source outcome c t is whole
+cause_of_ends files r outcome made (at_modules constraints loaded known tokens c are is made-is) whole =
+    cause_of_either files r outcome (unparsed known.files is.fault) whole is.outcome_is (cause_of_unparsed files r loaded (there files r.constraints constraints c) whole known are.expand tokens are is.fault is.is_fault)
+cause_of_ends files r outcome made (with_all constraints loaded ms c t is made-is) whole = cause_with_all files r constraints loaded ms outcome c t is whole
 
 cause_of_request : (files : Files) (asked : Option Request) (outcome : Outcome) (made : List Call) → EndsRequest (Some files) asked outcome made → (whole : Bool) → IsCauseOf files asked (status_at outcome whole)
 cause_of_request files None outcome made ends true = ap status_of ends.0

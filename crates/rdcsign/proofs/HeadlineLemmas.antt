@@ -14,16 +14,24 @@ use Rattle.vlog_lex.specs.declared.fault.LexFault.TheVariants as lex
 use Rattle.vlog_lex.specs.Tokens.{AreTokens}
 use Rattle.vlog_lex.proofs.TokenLemmas.{one_list_at}
 use Rattle.thin_form.specs.Design.{Design}
-use Rattle.thin_form.specs.Source.{Spells, IsOneDesign}
+use Rattle.vlog_lex.specs.declared.tokens.Token.{Token}
+use Rattle.vlog_tree.specs.declared.module.Module.{Module}
+use Rattle.vlog_tree.specs.Lexemes.{Lexeme}
+use Rattle.vlog_parse.specs.declared.fault.ParseFault.{ParseFault}
+use Rattle.vlog_parse.specs.declared.fault.ParseFault.TheVariants as parsing
+use Rattle.vlog_parse.specs.Begins as parse
+use Rattle.vlog_parse.proofs.Given.{laws}
+use Rattle.vlog_parse.proofs.OneTreeLemmas.{one_tree}
+use Rattle.thin_form.specs.Source.{Says as SaysDesign, IsOneDesign}
 use Rattle.thin_cons.specs.Roles.{Declares}
 use Rattle.thin_cons.specs.declared.role.Role.{Role}
 use Rattle.thin_cons.proofs.Declared.{one_declaration}
 use Rattle.run_model.specs.Safe.{IsSafe}
 use Rattle.rdcsign.specs.Request.{Request, request_of}
 use Rattle.rdcsign.specs.Outcome.{Outcome, Usage, Absent, Read, Source, NotYet, Memory, Judged, Says}
-use Rattle.rdcsign.specs.Faults.{stopped, unread}
-use Rattle.rdcsign.specs.Lexemes.{lexemes}
-use Rattle.rdcsign.specs.Ends.{IsLoaded, IsOrMemory, HasTokens, IsReport, Ends, EndsRequest, at_constraints, at_sources, at_tokens, with_all}
+use Rattle.rdcsign.specs.Faults.{stopped, unread, unparsed}
+use Rattle.rdcsign.specs.Lexemes.{lexemes_of}
+use Rattle.rdcsign.specs.Ends.{IsLoaded, IsOrMemory, SpellModules, IsReport, Ends, EndsRequest, at_constraints, at_sources, at_tokens, at_modules, with_all}
 use Rattle.rdcsign.specs.Signoff.{Spell}
 use Rattle.rdcsign.specs.DesignMachine.{machine_of}
 use Rattle.rdcsign.specs.Headline.{CleanIsSafe}
@@ -45,22 +53,23 @@ same_state a b e = cc
 nothing_fails : (known : State) → NothingFails (Ok known)
 nothing_fails known = record { reads = λ name is. absurd cc; suffices = λ is. absurd cc }
 
--- told files have one list of tokens
-one_source : (files : Files) (r : Request) (loaded others source words : List (List ℕ)) → HasTokens (Some files) r loaded source → HasTokens (Some files) r others words → source ≡ words
-one_source files r loaded others source words a b =
-    let both = one_answer_is files r.files loaded others (Ok a.known) (Ok b.known) (nothing_fails a.known) (nothing_fails b.known) a.expand b.expand in
-    let bytes-is : a.known.bytes ≡ b.known.bytes = ap (λ (s : State). s.bytes) (same_state a.known b.known both.0) in
-    let tokens-is = one_list_at 0 b.known.bytes a.tokens b.tokens (subst (λ (bs : List ℕ). AreTokens 0 bs a.tokens) bytes-is a.are_tokens) b.are_tokens in
-    a.words_are ∙ ap (λ (bs : List ℕ). lexemes bs a.tokens) bytes-is ∙ ap (lexemes b.known.bytes) tokens-is ∙ sym b.words_are
+-- told files spell one list of modules
+one_source : (files : Files) (r : Request) (loaded others : List (List ℕ)) (ms ns : List Module) → SpellModules (Some files) r loaded ms → SpellModules (Some files) r others ns → ms ≡ ns
+one_source files r loaded others ms ns a b =
+    let both = one_answer_is files r.files loaded others (Ok a.known) (Ok b.known) (nothing_fails a.known) (nothing_fails b.known) a.have.expand b.have.expand in
+    let known-is : a.known ≡ b.known = same_state a.known b.known both.0 in
+    let tokens-is = one_list_at 0 b.known.bytes a.tokens b.tokens (subst (λ (s : State). AreTokens 0 s.bytes a.tokens) known-is a.have.are_tokens) b.have.are_tokens in
+    let lexemes-is : lexemes_of a.known a.tokens ≡ lexemes_of b.known b.tokens = ap (λ (s : State). lexemes_of s a.tokens) known-is ∙ ap (lexemes_of b.known) tokens-is in
+    one_tree laws (lexemes_of b.known b.tokens) ms ns (subst (λ (ls : List Lexeme). parse.IsAnswer ls ms) lexemes-is a.answer).spelled b.answer.spelled
 
 -- the report of a clean call is that of the design that the files spell
-spelled_is_safe : IsOneDesign → (files : Files) (r : Request) (constraints : List ℕ) (loaded source : List (List ℕ)) (report : List ℕ) (crossing : Bool) → crossing ≡ false → IsLoaded (Some files) r.constraints constraints
-    → HasTokens (Some files) r loaded source → IsReport r.top constraints source report crossing → (design : Design) (roles : List Role) → Spell files r design roles → IsSafe (machine_of design roles)
-spelled_is_safe one files r constraints loaded source report crossing clean c t is design roles spell =
+spelled_is_safe : IsOneDesign → (files : Files) (r : Request) (constraints : List ℕ) (loaded : List (List ℕ)) (ms : List Module) (report : List ℕ) (crossing : Bool) → crossing ≡ false → IsLoaded (Some files) r.constraints constraints
+    → SpellModules (Some files) r loaded ms → IsReport r.top constraints ms report crossing → (design : Design) (roles : List Role) → Spell files r design roles → IsSafe (machine_of design roles)
+spelled_is_safe one files r constraints loaded ms report crossing clean c t is design roles spell =
     let constraints-is : constraints ≡ spell.are_read.constraints = same_bytes constraints spell.are_read.constraints (sym c.value ∙ spell.are_read.has_constraints.value) in
-    let source-is : source ≡ spell.are_read.source = one_source files r loaded spell.are_read.loaded source spell.are_read.source t spell.are_read.has_tokens in
-    let spells : Spells r.top source design = subst (λ (words : List (List ℕ)). Spells r.top words design) (sym source-is) spell.of_form.design_is in
-    let design-is : is.design ≡ design = one r.top source is.design design is.of_form.design_is spells in
+    let modules-is : ms ≡ spell.are_read.modules = one_source files r loaded spell.are_read.loaded ms spell.are_read.modules t spell.are_read.spell in
+    let says : SaysDesign r.top ms design = subst (λ (ns : List Module). SaysDesign r.top ns design) (sym modules-is) spell.of_form.design_is in
+    let design-is : is.design ≡ design = one r.top ms is.design design is.of_form.design_is says in
     let declares : Declares design constraints roles = subst (λ (bytes : List ℕ). Declares design bytes roles) (sym constraints-is) spell.of_form.roles_are in
     let declares' : Declares is.design constraints roles = subst (λ (d : Design). Declares d constraints roles) (sym design-is) declares in
     let roles-is : is.roles ≡ roles = one_declaration is.design constraints is.roles roles is.of_form.roles_are declares' in
@@ -86,6 +95,12 @@ no_unread files (lex.BadNumber place) report crossing is = absurd cc
 no_unread files (lex.OpenComment place) report crossing is = absurd cc
 no_unread files (lex.OpenString place) report crossing is = absurd cc
 
+no_unparsed : (files : List (List ℕ)) (fault : ParseFault) (report : List ℕ) (crossing : Bool) → Judged report crossing ≡ unparsed files fault → ⊥
+no_unparsed files parsing.Memory report crossing is = absurd cc
+no_unparsed files (parsing.Unsupported word place) report crossing is = absurd cc
+no_unparsed files (parsing.Syntax place) report crossing is = absurd cc
+no_unparsed files (parsing.TooDeep place) report crossing is = absurd cc
+
 no_either : (wanted : Outcome) (report : List ℕ) (crossing : Bool) → (Judged report crossing ≡ wanted → ⊥) → IsOrMemory (Judged report crossing) wanted → ⊥
 no_either wanted report crossing none (inl is) = none is
 no_either wanted report crossing none (inr is) = absurd cc
@@ -96,7 +111,8 @@ judged_is_safe : IsOneDesign → (files : Files) (r : Request) (report : List �
 judged_is_safe one files r report crossing made clean (at_constraints is made-is) = absurd is
 judged_is_safe one files r report crossing made clean (at_sources constraints loaded c is made-is) = absurd (no_either (stopped loaded is.fault) report crossing (no_stop loaded is.fault report crossing) is.outcome_is)
 judged_is_safe one files r report crossing made clean (at_tokens constraints loaded known c expand is made-is) = absurd (no_either (unread known.files is.fault) report crossing (no_unread known.files is.fault report crossing) is.outcome_is)
-judged_is_safe one files r report crossing made clean (with_all constraints loaded source c t is made-is) = spelled_is_safe one files r constraints loaded source report crossing clean c t is
+judged_is_safe one files r report crossing made clean (at_modules constraints loaded known tokens c are is made-is) = absurd (no_either (unparsed known.files is.fault) report crossing (no_unparsed known.files is.fault report crossing) is.outcome_is)
+judged_is_safe one files r report crossing made clean (with_all constraints loaded ms c t is made-is) = spelled_is_safe one files r constraints loaded ms report crossing clean c t is
 
 -- Clean is the status of a judgement without a crossing alone
 clean_end_is_safe : IsOneDesign → (files : Files) (r : Request) (outcome : Outcome) (made : List Call) (whole : Bool) → statuses.Clean ≡ status_at outcome whole → Ends (Some files) r outcome made

@@ -6,3 +6,4 @@ pub mod MachineLemmas
 pub mod HeadlineLemmas
 pub mod NodeLemmas
 pub mod PlainLemmas
+pub mod SmallLemmas

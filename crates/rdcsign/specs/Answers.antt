@@ -1,5 +1,5 @@
 -- The answers of the stages of a call, as outcomes.
-use Rattle.std.specs.Prelude.{◌≡◌, ℕ, List, Option, Result, Ok, Err}
+use Rattle.std.specs.Prelude.{◌≡◌, ℕ, List, length, Option, Result, Ok, Err}
 use Rattle.rdc_outside.specs.Shelf.{Files, Calls, Call}
 use Rattle.rdc_outside.specs.declared.source.Text.{Text}
 use Rattle.vlog_lex.specs.declared.fault.LexFault.{LexFault}
@@ -12,9 +12,12 @@ use Rattle.rdcsign.specs.declared.refusal.Refusal.{Refusal}
 use Rattle.rdcsign.specs.declared.report.Judgement.{Judgement}
 use Rattle.rdcsign.specs.Request.{Request, first_of, texts}
 use Rattle.rdcsign.specs.Outcome.{Outcome, Usage, Absent, Read, Source, NotYet, Memory, Judged, refused}
-use Rattle.rdcsign.specs.Faults.{unread}
-use Rattle.rdcsign.specs.Lexemes.{lexemes}
-use Rattle.rdcsign.specs.Ends.{IsOrMemory, SpellsNone, IsJudgement, Ends, EndsCall}
+use Rattle.vlog_tree.specs.declared.module.Module.{Module}
+use Rattle.vlog_tree.specs.Lexemes.{lexemes, place_at}
+use Rattle.vlog_parse.specs.declared.fault.ParseFault.{ParseFault}
+use Rattle.vlog_parse.specs.Begins as parse
+use Rattle.rdcsign.specs.Faults.{unread, unparsed}
+use Rattle.rdcsign.specs.Ends.{IsOrMemory, SayNone, IsJudgement, Ends, EndsCall}
 use Rattle.rdcsign.specs.Loads.{with_loads}
 
 -- a judgement or a refusal as an outcome
@@ -22,15 +25,15 @@ abbrev pub outcome_of : Result Judgement Refusal → Outcome
 outcome_of (Ok j) = Judged j.report.items j.crossing
 outcome_of (Err refusal) = refused refusal
 
--- the tokens spell no design, or memory is wanted
-abbrev pub IsNoDesign : Request → List (List ℕ) → Outcome → Type 0
-IsNoDesign r source (NotYet n) = (n ≡ first_of r.files) × SpellsNone r.top source
-IsNoDesign r source Memory = Unit {0}
-IsNoDesign r source Usage = ⊥
-IsNoDesign r source (Absent n) = ⊥
-IsNoDesign r source (Read n) = ⊥
-IsNoDesign r source (Source details) = ⊥
-IsNoDesign r source (Judged report crossing) = ⊥
+-- the modules say no design, or memory is wanted
+abbrev pub IsNoDesign : Request → List Module → Outcome → Type 0
+IsNoDesign r ms (NotYet n) = (n ≡ first_of r.files) × SayNone r.top ms
+IsNoDesign r ms Memory = Unit {0}
+IsNoDesign r ms Usage = ⊥
+IsNoDesign r ms (Absent n) = ⊥
+IsNoDesign r ms (Read n) = ⊥
+IsNoDesign r ms (Source details) = ⊥
+IsNoDesign r ms (Judged report crossing) = ⊥
 
 -- the constraints give the design's sources no roles, or memory is wanted
 abbrev pub AreNoRoles : Request → Design → List ℕ → Outcome → Type 0
@@ -42,10 +45,12 @@ AreNoRoles r design constraints (Read n) = ⊥
 AreNoRoles r design constraints (Source details) = ⊥
 AreNoRoles r design constraints (Judged report crossing) = ⊥
 
--- how a text, from which the sources expand, ends the call with these constraints: without tokens, or with them
+-- how a text, from which the sources expand, ends the call with these constraints: without tokens, with tokens that spell no modules, or with modules
 pub data EndsText (r : Request) (constraints : List ℕ) (text : Text) (outcome : Outcome) : Type 0 where
   no_tokens : (fault : LexFault) → IsFault text.bytes text.places fault → IsOrMemory outcome (unread (texts text.files) fault) → EndsText r constraints text outcome
-  judged : (tokens : List Token) → AreTokens 0 text.bytes tokens → IsJudgement r constraints (lexemes text.bytes tokens) outcome → EndsText r constraints text outcome
+  no_modules : (tokens : List Token) (fault : ParseFault) → AreTokens 0 text.bytes tokens → parse.IsFault (place_at text.places (length text.bytes)) (lexemes text.bytes text.places tokens) fault
+      → IsOrMemory outcome (unparsed (texts text.files) fault) → EndsText r constraints text outcome
+  judged : (tokens : List Token) (ms : List Module) → AreTokens 0 text.bytes tokens → parse.IsAnswer (lexemes text.bytes text.places tokens) ms → IsJudgement r constraints ms outcome → EndsText r constraints text outcome
 
 -- how a request ends, with its loads listed
 pub record EndsListed (told : Option Files) (r : Request) (outcome : Outcome) (old new : Option Calls) : Type 0 where

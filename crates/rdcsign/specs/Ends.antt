@@ -1,7 +1,7 @@
 -- The stages of a call, and how it ends at each.
 --     IsLoaded, IsRefusedLoad      what the load of the constraints gives
---     IsStopped, IsUnread, HasTokens      what the sources give: a fault of expansion, a fault of lexing, or tokens
---     IsReport, IsJudgement      what the tokens and the constraints give
+--     IsStopped, IsUnread, IsUnparsed, SpellModules      what the sources give: a fault of expansion, of lexing or of parsing, or modules
+--     IsReport, IsJudgement      what the modules and the constraints give
 --     Ends, EndsCall      how the call ends, and the loads that it made
 use Rattle.std.specs.Prelude.{◌≡◌, ◌<◌, ◌≤◌, ◌⊎◌, ℕ, Bool, List, [], ◌∷◌, ◌++◌, map, length, Option, Some, None, Ok, Err, IfSome, IsSomeAnd}
 use Rattle.rdc_outside.specs.Shelf.{Files, Call, Load}
@@ -11,7 +11,10 @@ use Rattle.vlog_pre.specs.Expansion.{Expands, first_state, first_items}
 use Rattle.vlog_lex.specs.declared.fault.LexFault.{LexFault}
 use Rattle.vlog_lex.specs.declared.tokens.Token.{Token}
 use Rattle.vlog_lex.specs.Tokens.{AreTokens, IsFault}
-use Rattle.thin_form.specs.Source.{Spells}
+use Rattle.vlog_tree.specs.declared.module.Module.{Module}
+use Rattle.vlog_parse.specs.declared.fault.ParseFault.{ParseFault}
+use Rattle.vlog_parse.specs.Begins as parse
+use Rattle.thin_form.specs.Source as form
 use Rattle.thin_form.specs.Design.{Design}
 use Rattle.thin_cons.specs.Roles.{Declares}
 use Rattle.thin_cons.specs.declared.role.Role.{Role}
@@ -21,8 +24,8 @@ use Rattle.rdcsign.specs.Closed.{IsClosed}
 use Rattle.rdcsign.specs.Verdict.{crosses}
 use Rattle.rdcsign.specs.Report as texts
 use Rattle.rdcsign.specs.Outcome.{Outcome, Usage, Absent, Read, Source, NotYet, Memory, Judged}
-use Rattle.rdcsign.specs.Faults.{stopped, unread}
-use Rattle.rdcsign.specs.Lexemes.{lexemes}
+use Rattle.rdcsign.specs.Faults.{stopped, unread, unparsed}
+use Rattle.rdcsign.specs.Lexemes.{places_of, end_of, lexemes_of}
 
 -- the file of that name has these bytes, and not too many
 pub record IsLoaded (told : Option Files) (name bytes : List ℕ) : Type 0 where
@@ -65,57 +68,69 @@ ExpandTo told r loaded known = Expands told first_state (first_items r.files) lo
 -- the text has no tokens, for a fault that ends the call
 pub record IsUnread (known : State) (outcome : Outcome) : Type 0 where
   pub fault : LexFault
-  pub is_fault : IsFault known.bytes (known.places ++ known.end ∷ []) fault
+  pub is_fault : IsFault known.bytes (places_of known) fault
   pub outcome_is : IsOrMemory outcome (unread known.files fault)
 
--- the sources expand to a text with these tokens, each as its bytes
-pub record HasTokens (told : Option Files) (r : Request) (loaded : List (List ℕ)) (words : List (List ℕ)) : Type 0 where
-  pub known : State
+-- the sources expand to a text with these tokens
+pub record HaveTokens (told : Option Files) (r : Request) (loaded : List (List ℕ)) (known : State) (tokens : List Token) : Type 0 where
   pub expand : ExpandTo told r loaded known
-  pub tokens : List Token
   pub are_tokens : AreTokens 0 known.bytes tokens
-  pub words_are : words ≡ lexemes known.bytes tokens
 
--- the tokens spell no design
-abbrev pub SpellsNone : List ℕ → List (List ℕ) → Type 0
-SpellsNone top source = (design : Design) → Spells top source design → ⊥
+-- the tokens spell no modules, for a fault that ends the call
+pub record IsUnparsed (known : State) (tokens : List Token) (outcome : Outcome) : Type 0 where
+  pub fault : ParseFault
+  pub is_fault : parse.IsFault (end_of known) (lexemes_of known tokens) fault
+  pub outcome_is : IsOrMemory outcome (unparsed known.files fault)
 
--- the tokens spell a design, and the constraints give its sources no roles
-abbrev pub DeclaresNone : List ℕ → List ℕ → List (List ℕ) → Type 0
-DeclaresNone top constraints source = (design : Design) × Spells top source design × ((roles : List Role) → Declares design constraints roles → ⊥)
+-- the sources' tokens spell these modules, less than 256 deep
+pub record SpellModules (told : Option Files) (r : Request) (loaded : List (List ℕ)) (ms : List Module) : Type 0 where
+  pub known : State
+  pub tokens : List Token
+  pub have : HaveTokens told r loaded known tokens
+  pub answer : parse.IsAnswer (lexemes_of known tokens) ms
 
--- the tokens spell this design, and the constraints give its sources these roles
-pub record IsOfForm (top constraints : List ℕ) (source : List (List ℕ)) (design : Design) (roles : List Role) : Type 0 where
-  pub design_is : Spells top source design
+-- the modules say no design
+abbrev pub SayNone : List ℕ → List Module → Type 0
+SayNone top ms = (design : Design) → form.Says top ms design → ⊥
+
+-- the modules say a design, and the constraints give its sources no roles
+abbrev pub DeclaresNone : List ℕ → List ℕ → List Module → Type 0
+DeclaresNone top constraints ms = (design : Design) × form.Says top ms design × ((roles : List Role) → Declares design constraints roles → ⊥)
+
+-- the modules say this design, and the constraints give its sources these roles
+pub record IsOfForm (top constraints : List ℕ) (ms : List Module) (design : Design) (roles : List Role) : Type 0 where
+  pub design_is : form.Says top ms design
   pub roles_are : Declares design constraints roles
 
--- this is the report on the tokens and the constraints, and whether an edge crosses
-pub record IsReport (top constraints : List ℕ) (source : List (List ℕ)) (report : List ℕ) (crossing : Bool) : Type 0 where
+-- this is the report on the modules and the constraints, and whether an edge crosses
+pub record IsReport (top constraints : List ℕ) (ms : List Module) (report : List ℕ) (crossing : Bool) : Type 0 where
   pub design : Design
   pub roles : List Role
-  pub of_form : IsOfForm top constraints source design roles
+  pub of_form : IsOfForm top constraints ms design roles
   pub closed : IsClosed design
   pub text : report ≡ texts.report top design roles
   pub verdict : crossing ≡ crosses design roles
 
--- the tokens and the constraints end the call so: the tokens are looked at first, and named by the first file of source
-abbrev pub IsJudgement : Request → List ℕ → List (List ℕ) → Outcome → Type 0
-IsJudgement r constraints source (NotYet n) = (n ≡ first_of r.files) × SpellsNone r.top source ⊎ (n ≡ r.constraints) × DeclaresNone r.top constraints source
-IsJudgement r constraints source (Judged report crossing) = IsReport r.top constraints source report crossing
-IsJudgement r constraints source Memory = Unit {0}
-IsJudgement r constraints source Usage = ⊥
-IsJudgement r constraints source (Absent n) = ⊥
-IsJudgement r constraints source (Read n) = ⊥
-IsJudgement r constraints source (Source details) = ⊥
+-- the modules and the constraints end the call so: the modules are looked at first, and named by the first file of source
+abbrev pub IsJudgement : Request → List ℕ → List Module → Outcome → Type 0
+IsJudgement r constraints ms (NotYet n) = (n ≡ first_of r.files) × SayNone r.top ms ⊎ (n ≡ r.constraints) × DeclaresNone r.top constraints ms
+IsJudgement r constraints ms (Judged report crossing) = IsReport r.top constraints ms report crossing
+IsJudgement r constraints ms Memory = Unit {0}
+IsJudgement r constraints ms Usage = ⊥
+IsJudgement r constraints ms (Absent n) = ⊥
+IsJudgement r constraints ms (Read n) = ⊥
+IsJudgement r constraints ms (Source details) = ⊥
 
--- how a request ends, and the loads that it made: at the constraints, at the expansion of the sources, at its tokens, or with all in hand
+-- how a request ends, and the loads that it made: at the constraints, at the expansion of the sources, at its tokens, at their modules, or with all in hand
 pub data Ends (told : Option Files) (r : Request) (outcome : Outcome) (made : List Call) : Type 0 where
   at_constraints : IsRefusedLoad told r.constraints outcome → made ≡ load_unless_memory r.constraints outcome → Ends told r outcome made
   at_sources : (constraints : List ℕ) (loaded : List (List ℕ)) → IsLoaded told r.constraints constraints → IsStopped told r loaded outcome
       → made ≡ loads_of (r.constraints ∷ loaded) → Ends told r outcome made
   at_tokens : (constraints : List ℕ) (loaded : List (List ℕ)) (known : State) → IsLoaded told r.constraints constraints → ExpandTo told r loaded known → IsUnread known outcome
       → made ≡ loads_of (r.constraints ∷ loaded) → Ends told r outcome made
-  with_all : (constraints : List ℕ) (loaded source : List (List ℕ)) → IsLoaded told r.constraints constraints → HasTokens told r loaded source → IsJudgement r constraints source outcome
+  at_modules : (constraints : List ℕ) (loaded : List (List ℕ)) (known : State) (tokens : List Token) → IsLoaded told r.constraints constraints → HaveTokens told r loaded known tokens → IsUnparsed known tokens outcome
+      → made ≡ loads_of (r.constraints ∷ loaded) → Ends told r outcome made
+  with_all : (constraints : List ℕ) (loaded : List (List ℕ)) (ms : List Module) → IsLoaded told r.constraints constraints → SpellModules told r loaded ms → IsJudgement r constraints ms outcome
       → made ≡ loads_of (r.constraints ∷ loaded) → Ends told r outcome made
 
 -- the same of a request that may be none

@@ -3,6 +3,7 @@
 --     at_place, of_file           a word with a place, and with a file's name
 --     stopped files fault         how a fault of expansion ends a call
 --     unread files fault          how a fault of lexing does
+--     unparsed files fault        how a fault of parsing does
 use Rattle.std.specs.Prelude.{ℕ, List, ◌++◌, codes}
 use Rattle.std.specs.Fmt.{decimal}
 use Rattle.rdc_outside.specs.declared.source.Place.{Place}
@@ -11,6 +12,8 @@ use Rattle.vlog_pre.specs.declared.fault.PreFault.{PreFault}
 use Rattle.vlog_pre.specs.declared.fault.PreFault.TheVariants as pre
 use Rattle.vlog_lex.specs.declared.fault.LexFault.{LexFault}
 use Rattle.vlog_lex.specs.declared.fault.LexFault.TheVariants as lex
+use Rattle.vlog_parse.specs.declared.fault.ParseFault.{ParseFault}
+use Rattle.vlog_parse.specs.declared.fault.ParseFault.TheVariants as parse
 use Rattle.rdcsign.specs.Outcome.{Outcome, Absent, Read, Source, Memory}
 
 -- FILE:LINE:COL, where files are named by their numbers
@@ -44,3 +47,10 @@ unread files (lex.BadByte place) = at_place (codes "badbyte") files place
 unread files (lex.BadNumber place) = at_place (codes "badnumber") files place
 unread files (lex.OpenComment place) = at_place (codes "opencomment") files place
 unread files (lex.OpenString place) = at_place (codes "openstring") files place
+
+-- how a fault of parsing ends a call
+abbrev pub unparsed : List (List ℕ) → ParseFault → Outcome
+unparsed files parse.Memory = Memory
+unparsed files (parse.Unsupported word place) = at_place (codes "unsupported " ++ word) files place
+unparsed files (parse.Syntax place) = at_place (codes "syntax") files place
+unparsed files (parse.TooDeep place) = at_place (codes "toodeep") files place

@@ -9,13 +9,15 @@ use Rattle.rdc_outside.specs.declared.outcome.Status.TheVariants as statuses
 use Rattle.vlog_pre.specs.declared.fault.PreFault.TheVariants.{Absent}
 use Rattle.vlog_pre.specs.Known.{State}
 use Rattle.vlog_pre.specs.Expansion.{Expands, first_state, first_items}
+use Rattle.vlog_lex.specs.declared.tokens.Token.{Token}
+use Rattle.vlog_tree.specs.declared.module.Module.{Module}
 use Rattle.thin_form.specs.Design.{Design}
 use Rattle.thin_cons.specs.declared.role.Role.{Role}
 use Rattle.rdcsign.specs.declared.loading.TheConstants.{MOST}
 use Rattle.rdcsign.specs.Request.{Request, request_of}
 use Rattle.rdcsign.specs.Verdict.{crosses}
 use Rattle.rdcsign.specs.Outcome.{Outcome, Source, Says}
-use Rattle.rdcsign.specs.Ends.{IsLoaded, IsStopped, ExpandTo, IsUnread, HasTokens, SpellsNone, DeclaresNone, IsOfForm, EndsCall}
+use Rattle.rdcsign.specs.Ends.{IsLoaded, IsStopped, ExpandTo, IsUnread, HaveTokens, IsUnparsed, SpellModules, SayNone, DeclaresNone, IsOfForm, EndsCall}
 use Rattle.rdcsign.specs.Loads.{with_loads}
 
 -- a call: how it ends, with its loads in order, and what it leaves on the sink
@@ -34,18 +36,18 @@ IsThere files name = IsSomeAnd (files name) (λ bytes. length bytes ≤ MOST)
 abbrev pub IsTooBig : Files → List ℕ → Type 0
 IsTooBig files name = IsSomeAnd (files name) (λ bytes. MOST < length bytes)
 
--- the constraints are there and not too big, and the sources have tokens
+-- the constraints are there and not too big, and the sources spell modules
 pub record AreRead (files : Files) (r : Request) : Type 0 where
   pub constraints : List ℕ
   pub loaded : List (List ℕ)
-  pub source : List (List ℕ)
+  pub modules : List Module
   pub has_constraints : IsLoaded (Some files) r.constraints constraints
-  pub has_tokens : HasTokens (Some files) r loaded source
+  pub spell : SpellModules (Some files) r loaded modules
 
 -- the files of the request spell this design, and give its sources these roles
 pub record Spell (files : Files) (r : Request) (design : Design) (roles : List Role) : Type 0 where
   pub are_read : AreRead files r
-  pub of_form : IsOfForm r.top are_read.constraints are_read.source design roles
+  pub of_form : IsOfForm r.top are_read.constraints are_read.modules design roles
 
 -- the files of the request spell a design in which an edge crosses, or none does
 pub record IsJudgedAs (crossing : Bool) (files : Files) (r : Request) : Type 0 where
@@ -59,19 +61,20 @@ abbrev pub IsMissing : Files → Request → Type 0
 IsMissing files r = (files r.constraints ≡ None)
     ⊎ IsThere files r.constraints × ((name : List ℕ) × (loaded : List (List ℕ)) × Expands (Some files) first_state (first_items r.files) loaded (Err (Absent name)))
 
--- the sources have a fault of expansion or of lexing, of which this is said
+-- the sources have a fault of expansion, of lexing or of parsing, of which this is said
 abbrev pub IsFaultySource : Files → Request → List ℕ → Type 0
 IsFaultySource files r details = (loaded : List (List ℕ)) × (IsStopped (Some files) r loaded (Source details)
-    ⊎ ((known : State) × ExpandTo (Some files) r loaded known × IsUnread known (Source details)))
+    ⊎ (((known : State) × ExpandTo (Some files) r loaded known × IsUnread known (Source details))
+    ⊎ ((known : State) × (tokens : List Token) × HaveTokens (Some files) r loaded known tokens × IsUnparsed known tokens (Source details))))
 
 -- the constraints are there and not too big, and the source is faulty
 abbrev pub IsFaulty : Files → Request → Type 0
 IsFaulty files r = IsThere files r.constraints × ((details : List ℕ) × IsFaultySource files r details)
 
--- the constraints are there, and the sources' tokens spell no design or the constraints give it no roles
+-- the constraints are there, and the sources' modules say no design or the constraints give it no roles
 pub record IsUnformed (files : Files) (r : Request) : Type 0 where
   pub are_read : AreRead files r
-  pub unformed : SpellsNone r.top are_read.source ⊎ DeclaresNone r.top are_read.constraints are_read.source
+  pub unformed : SayNone r.top are_read.modules ⊎ DeclaresNone r.top are_read.constraints are_read.modules
 
 -- when each status comes for a request over told files; no file says when memory or the outside fails
 abbrev pub IsCauseFor : Files → Request → Status → Type 0

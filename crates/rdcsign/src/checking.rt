@@ -1,8 +1,7 @@
 //! The work of a request: its files, and the judgement on what they say.
 
-ghost use Rattle.std.specs.Prelude.{◌≡◌, ◌<◌, ◌+◌, ◌^◌, ℕ, length, IfOk, IfErr};
-ghost use Rattle.thin_tree.specs.Written as written;
-ghost use Rattle.thin_form.specs.Source.{Spells};
+ghost use Rattle.std.specs.Prelude.{◌≡◌, ◌<◌, ◌+◌, ℕ, length, IfOk, IfErr};
+ghost use Rattle.thin_form.specs.Source.{Says, IsSmall};
 ghost use Rattle.thin_form.specs.Netlist.{design_of};
 ghost use Rattle.thin_cons.specs.Roles.{Declares};
 ghost use Rattle.rdcsign.specs.Request.{seen, texts};
@@ -12,8 +11,7 @@ ghost use Rattle.rdcsign.specs.Ends.{IsJudgement};
 ghost use Rattle.rdcsign.specs.Loads.{CountsRefusal};
 ghost use Rattle.rdcsign.specs.Answers.{outcome_of, IsNoDesign, AreNoRoles, EndsText, EndsListed, EndsWords};
 
-use crate::faults::{stopped, unread};
-use crate::lexemes::lexemes;
+use crate::faults::{stopped, unparsed, unread};
 use crate::loading::load_file;
 use crate::refusal::Refusal;
 use crate::report::{Judgement, judge};
@@ -23,20 +21,22 @@ use std::alloc::Global;
 use thin_cons::{ConsFault, Roles, declare};
 use thin_form::{FormFault, Netlist};
 use vlog_lex::lex;
+use vlog_parse::parse;
 use vlog_pre::expand;
+use vlog_tree::Module;
 
-/// The design that the tokens spell.
+/// The design that the modules say.
 fn read_design<'a, 'b>(
     alloc: Global,
     request: &Request<'a>,
-    source: &[&'b [u8]],
+    modules: &'b [Module],
 ) -> Result<Netlist<'b>, Refusal<'a>>
-    requires { length source.now < 2 ^ 32 }
-    ensures design { IfOk result (λ d. Spells request.now.top.now (written.texts source.now) (design_of d)) }
+    requires { IsSmall modules.now }
+    ensures design { IfOk result (λ d. Says request.now.top.now modules.now (design_of d)) }
     ensures closed { IfOk result (λ d. IsClosed (design_of d)) }
-    ensures refused { IfErr result (λ r. IsNoDesign (seen request.now) (written.texts source.now) (refused r)) }
+    ensures refused { IfErr result (λ r. IsNoDesign (seen request.now) modules.now (refused r)) }
 {
-    match thin_form::read(alloc, request.top.as_bytes(), source) {
+    match thin_form::read(alloc, request.top.as_bytes(), modules) {
         Ok(design) => {
             let _sources = design.sources();
             Ok(design)
@@ -64,17 +64,17 @@ fn read_roles<'a>(
     }
 }
 
-/// The judgement on the tokens and the constraints. The tokens are looked at first.
-fn judge_tokens<'a>(
+/// The judgement on the modules and the constraints. The modules are looked at first.
+fn judge_modules<'a>(
     alloc: Global,
     request: &Request<'a>,
     constraints: &[u8],
-    source: &[&[u8]],
+    modules: &[Module],
 ) -> Result<Judgement, Refusal<'a>>
-    requires { length source.now < 2 ^ 32 }
-    ensures { IsJudgement (seen request.now) constraints.now (written.texts source.now) (outcome_of result) }
+    requires { IsSmall modules.now }
+    ensures { IsJudgement (seen request.now) constraints.now modules.now (outcome_of result) }
 {
-    let design = match read_design(alloc, request, source) {
+    let design = match read_design(alloc, request, modules) {
         Ok(design) => design,
         Err(refusal) => return Err(refusal),
     };
@@ -103,11 +103,11 @@ fn judge_text<'a>(
         Ok(tokens) => tokens,
         Err(fault) => return Err(unread(alloc, text.files.as_slice(), fault)),
     };
-    let source = match lexemes(alloc, text.bytes.as_slice(), &tokens) {
-        Ok(source) => source,
-        Err(_) => return Err(Refusal::Memory),
+    let modules = match parse(alloc, text, &tokens) {
+        Ok(modules) => modules,
+        Err(fault) => return Err(unparsed(alloc, text.files.as_slice(), fault)),
     };
-    judge_tokens(alloc, request, constraints, &source)
+    judge_modules(alloc, request, constraints, modules.as_slice())
 }
 
 /// What comes of a request.

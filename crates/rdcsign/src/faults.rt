@@ -4,13 +4,14 @@ ghost use Rattle.std.specs.Prelude.{◌≡◌, ◌++◌, IfOk};
 ghost use Rattle.vlog_pre.specs.Known.{name_at};
 ghost use Rattle.rdcsign.specs.Request.{texts};
 ghost use Rattle.rdcsign.specs.Outcome.{refused, Source};
-ghost use Rattle.rdcsign.specs.Faults.{place_text, at_place, stopped, unread};
+ghost use Rattle.rdcsign.specs.Faults.{place_text, at_place, stopped, unread, unparsed};
 ghost use Rattle.rdcsign.specs.Ends.{IsOrMemory};
 
 use crate::refusal::{Name, Refusal};
 use rdc_outside::Place;
 use std::alloc::{AllocError, Global};
 use vlog_lex::LexFault;
+use vlog_parse::ParseFault;
 use vlog_pre::{PreFault, Stopped};
 
 /// The name of the file with a number.
@@ -107,5 +108,30 @@ pub fn unread<'a>(alloc: Global, files: &[String], fault: LexFault) -> Refusal<'
         LexFault::BadNumber(place) => with_place(alloc, b"badnumber ", files, place),
         LexFault::OpenComment(place) => with_place(alloc, b"opencomment ", files, place),
         LexFault::OpenString(place) => with_place(alloc, b"openstring ", files, place),
+    }
+}
+
+/// Refuses the source for a token that this profile leaves out.
+fn with_token<'a>(alloc: Global, word: &[u8], files: &[String], place: Place) -> Refusal<'a>
+    ensures { IsOrMemory (refused result) (unparsed (texts files.now) (ParseFault.Unsupported word.now place)) }
+{
+    match joined(alloc, word, b" ") {
+        Ok(named) => match joined(alloc, b"unsupported ", &named) {
+            Ok(word) => with_place(alloc, &word, files, place),
+            Err(_) => Refusal::Memory,
+        },
+        Err(_) => Refusal::Memory,
+    }
+}
+
+/// The refusal of tokens that spell no modules.
+pub fn unparsed<'a>(alloc: Global, files: &[String], fault: ParseFault) -> Refusal<'a>
+    ensures { IsOrMemory (refused result) (unparsed (texts files.now) fault) }
+{
+    match fault {
+        ParseFault::Memory => Refusal::Memory,
+        ParseFault::Unsupported(word, place) => with_token(alloc, word.as_slice(), files, place),
+        ParseFault::Syntax(place) => with_place(alloc, b"syntax ", files, place),
+        ParseFault::TooDeep(place) => with_place(alloc, b"toodeep ", files, place),
     }
 }

@@ -8,7 +8,6 @@
 mod checking;
 mod conclusion;
 mod faults;
-mod lexemes;
 mod loading;
 mod origin;
 mod plain;

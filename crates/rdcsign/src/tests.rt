@@ -38,6 +38,15 @@ const INITIAL: &str = "module m(input ca, input cb, input ra, input rb, input d,
 endmodule
 ";
 
+// Verilog of the profile that is not of the form: a wire of two bits.
+const TWO_BITS: &str = "module m(input ca, input cb, input ra, input rb, input d, output reg q);
+  reg a;
+  wire [1:0] w;
+  always @(posedge ca or negedge ra) if (!ra) a <= 1'b0; else a <= d;
+  always @(posedge cb or negedge ra) if (!ra) q <= 1'b0; else q <= a;
+endmodule
+";
+
 const CROSSING: &str =
     "rdc report 1\ntop m\nedge q crossing\nsame 1 crossing 1\nverdict crossing\n";
 
@@ -246,13 +255,19 @@ fn what_is_not_built_is_refused(rt: HostRuntime) -> Result<(), Fail> {
     let not_constraints = "refused notyet m.rdc\n";
     expect(
         &rt,
-        &make_case(&CHECK, CONSTRAINTS, INITIAL),
+        &make_case(&CHECK, CONSTRAINTS, TWO_BITS),
         Status::NotYet,
         not_source,
     )?;
     expect(
         &rt,
-        &make_case(&CHECK, "", INITIAL),
+        &make_case(&CHECK, "", TWO_BITS),
+        Status::NotYet,
+        not_source,
+    )?;
+    expect(
+        &rt,
+        &make_case(&CHECK, CONSTRAINTS, ""),
         Status::NotYet,
         not_source,
     )?;
@@ -268,6 +283,27 @@ fn what_is_not_built_is_refused(rt: HostRuntime) -> Result<(), Fail> {
         Status::NotYet,
         not_source,
     )
+}
+
+#[test]
+fn what_is_no_list_of_modules_is_named(rt: HostRuntime) -> Result<(), Fail> {
+    let rows = [
+        (INITIAL, "refused source unsupported initial m.v:4:3\n"),
+        ("module m(a);", "refused source syntax m.v:1:13\n"),
+        (
+            "module m;\n  assign y = a +;\nendmodule\n",
+            "refused source syntax m.v:2:17\n",
+        ),
+        (
+            "module m;\n  assign #1 y = a;\nendmodule\n",
+            "refused source unsupported # m.v:2:10\n",
+        ),
+    ];
+    for (source, text) in rows {
+        // the constraints are not looked at
+        expect(&rt, &make_case(&CHECK, "", source), Status::Source, text)?;
+    }
+    Ok(())
 }
 
 #[test]
@@ -334,7 +370,7 @@ fn a_sink_that_fails_keeps_a_front_of_the_report(rt: HostRuntime) -> Result<(), 
         failing.failing_write = failing.failing_write.saturating_add(1);
         expect(&rt, &failing, Status::Write, text)?;
     }
-    let mut refused = make_case(&CHECK, CONSTRAINTS, INITIAL);
+    let mut refused = make_case(&CHECK, CONSTRAINTS, TWO_BITS);
     refused.failing_write = 2;
     expect(&rt, &refused, Status::NotYet, "refused")
 }

@@ -209,8 +209,17 @@ fn the_second_file_is_named_by_its_faults(rt: HostRuntime) -> Result<(), Fail> {
             Status::Source,
             "refused source badnumber p.v:2:1\n",
         ),
+        (
+            "endmodule",
+            Status::Source,
+            "refused source syntax p.v:1:1\n",
+        ),
         // what is of no form is named by the first file
-        ("endmodule", Status::NotYet, "refused notyet m.v\n"),
+        (
+            "module n; endmodule",
+            Status::NotYet,
+            "refused notyet m.v\n",
+        ),
     ];
     for (source, status, text) in rows {
         let others = [("p.v", source)];
@@ -219,37 +228,76 @@ fn the_second_file_is_named_by_its_faults(rt: HostRuntime) -> Result<(), Fail> {
     Ok(())
 }
 
-#[test]
-fn tokens_of_other_kinds_are_not_built(rt: HostRuntime) -> Result<(), Fail> {
-    // the data input, the reset value, and what the second flop takes
-    let rows = [
-        ("\\d ", "1'b0", "a"),
-        ("$d", "1'b0", "a"),
-        ("\"d\"", "1'b0", "a"),
-        ("table", "1'b0", "a"),
-        ("d", "1 'b0", "a"),
-        ("d", "1'B0", "a"),
-        ("d", "1'h0", "a"),
-        ("d", "0", "a"),
-        ("d", "1'b0", "\\a "),
-        ("d", "1'b0", "1'b1"),
-        ("d", "1'b0", "a;"),
-    ];
-    for (input, reset, data) in rows {
-        let source = format!(in rt.alloc();
-            "module m(input ca, input cb, input ra, input rb, input {input}, output reg q);
+// The design with another data input, reset value, and data of the second flop.
+fn written(alloc: Global, input: &str, reset: &str, data: &str) -> Result<String, AllocError> {
+    format!(in alloc;
+        "module m(input ca, input cb, input ra, input rb, input {input}, output reg q);
   reg a;
   always @(posedge ca or negedge ra) if (!ra) a <= {reset}; else a <= d;
   always @(posedge cb or negedge rb) if (!rb) q <= 1'b0; else q <= {data};
 endmodule
 "
-        )?;
+    )
+}
+
+#[test]
+fn tokens_may_be_written_otherwise(rt: HostRuntime) -> Result<(), Fail> {
+    let rows = [
+        ("\\d ", "1'b0", "a"),
+        ("d", "1 'b0", "a"),
+        ("d", "1'B0", "a"),
+        ("d", "1'b0", "\\a "),
+    ];
+    for (input, reset, data) in rows {
+        let source = written(rt.alloc(), input, reset, data)?;
         expect(
             &rt,
             &make_case(&CHECK, CONSTRAINTS, &source),
-            Status::NotYet,
-            "refused notyet m.v\n",
+            Status::Hazard,
+            CROSSING,
         )?;
+    }
+    Ok(())
+}
+
+#[test]
+fn what_is_of_no_form_is_refused(rt: HostRuntime) -> Result<(), Fail> {
+    let not_built = (Status::NotYet, "refused notyet m.v\n");
+    let rows = [
+        (
+            "$d",
+            "1'b0",
+            "a",
+            (Status::Source, "refused source unsupported $d m.v:1:56\n"),
+        ),
+        (
+            "\"d\"",
+            "1'b0",
+            "a",
+            (Status::Source, "refused source syntax m.v:1:56\n"),
+        ),
+        (
+            "table",
+            "1'b0",
+            "a",
+            (
+                Status::Source,
+                "refused source unsupported table m.v:1:56\n",
+            ),
+        ),
+        ("d", "1'h0", "a", not_built),
+        ("d", "0", "a", not_built),
+        ("d", "1'b0", "1'b1", not_built),
+        (
+            "d",
+            "1'b0",
+            "a;",
+            (Status::Source, "refused source syntax m.v:4:70\n"),
+        ),
+    ];
+    for (input, reset, data, (status, text)) in rows {
+        let source = written(rt.alloc(), input, reset, data)?;
+        expect(&rt, &make_case(&CHECK, CONSTRAINTS, &source), status, text)?;
     }
     Ok(())
 }
