@@ -17,6 +17,3 @@ pub use fault::ConsFault;
 pub use file::read_constraints;
 pub use laws::one_file;
 pub use line::{Line, LineForm};
-
-#[cfg(test)]
-mod tests;

@@ -30,6 +30,3 @@ pub use fault::{DesignFault, EvalFault};
 pub use laws::{values_are_monotone, values_have_widths, values_settle};
 pub use parts::{BlackBox, BoxPort, Driver, DriverKind, GateUse, Parts, Process, Side, TopPort};
 pub use signal::{Bounds, Signal, SignalKind};
-
-#[cfg(test)]
-mod tests;

@@ -6,7 +6,6 @@ pub mod SliceLemmas
 pub mod QueueLemmas
 pub mod ListingLemmas
 pub mod CycleLemmas
-pub mod SmallNetLemmas
 pub mod OrderLemmas
 pub mod PinLemmas
 pub mod PlaceLemmas

@@ -9,4 +9,3 @@ pub mod Due
 pub mod Queue
 pub mod QueueOf
 pub mod Places
-pub mod SmallNet

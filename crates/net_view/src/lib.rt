@@ -18,8 +18,6 @@ mod pins;
 mod queue;
 mod slice_ids;
 mod slices;
-#[cfg(test)]
-mod tests;
 mod view;
 
 pub use cones::cone;

@@ -17,6 +17,3 @@ pub mod Options
 pub mod Reading
 pub mod Passed
 pub mod Answered
-pub mod ExampleNetLemmas
-pub mod TreeNetLemmas
-pub mod PinOrders

@@ -17,4 +17,3 @@ pub mod Netlist
 pub mod Step
 pub mod Passes
 pub mod ExampleNet
-pub mod TreeNet

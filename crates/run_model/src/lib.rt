@@ -27,8 +27,3 @@ pub use theorems::{
     agreeing_is_safe, clean_is_safe, example_runs, powers_up, progress_begins, rules_hold,
     up_is_one,
 };
-
-#[cfg(test)]
-mod tests;
-#[cfg(test)]
-mod tree_tests;

@@ -20,6 +20,3 @@ pub use chain::{Chain, ChainLine};
 pub use checker::Checker;
 pub use clauses::{Clause, Clauses};
 pub use fault::{AddFault, ChainFault, NewFault, Seen};
-
-#[cfg(test)]
-mod tests;

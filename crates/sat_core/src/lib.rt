@@ -13,6 +13,3 @@ mod solver;
 
 pub use answers::{Answer, SolveFault};
 pub use solver::solve;
-
-#[cfg(test)]
-mod tests;

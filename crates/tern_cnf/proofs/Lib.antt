@@ -5,4 +5,3 @@ pub mod MeetsLemmas
 pub mod SumLemmas
 pub mod NodeLemmas
 pub mod StatesLemmas
-pub mod SmallNetLemmas

@@ -4,4 +4,3 @@ pub mod Sums
 pub mod Asked
 pub mod States
 pub mod Grown
-pub mod SmallNet

@@ -18,10 +18,3 @@ pub use encoder::encode;
 pub use fault::EncodeFault;
 pub use laws::{clauses_are_equations, models_are_states};
 pub use question::{ClauseList, NodeList, Question};
-
-#[cfg(test)]
-mod model_tests;
-#[cfg(test)]
-mod small_net;
-#[cfg(test)]
-mod tests;

@@ -24,6 +24,3 @@ pub use line::Line;
 pub use reader::read_lines;
 pub use role::Role;
 pub use roles::Roles;
-
-#[cfg(test)]
-mod tests;

@@ -23,6 +23,3 @@ pub use env::Env;
 pub use operators::{family, is_division, is_power, operand_family};
 pub use shape::{Family, Shape};
 pub use whole::Whole;
-
-#[cfg(test)]
-mod tests;

@@ -18,6 +18,3 @@ pub use classes::{Class, letter};
 pub use looking::Ahead;
 pub use modes::Mode;
 pub use reading::Reader;
-
-#[cfg(test)]
-mod tests;

@@ -18,6 +18,3 @@ mod words;
 pub use fault::LexFault;
 pub use lexer::{lex, one_list};
 pub use tokens::{Kind, Token};
-
-#[cfg(test)]
-mod tests;

@@ -30,6 +30,3 @@ mod words;
 pub use expansion::expand;
 pub use fault::{PreFault, Stopped};
 pub use laws::{one_answer, one_text};
-
-#[cfg(test)]
-mod tests;

@@ -1,0 +1,4 @@
+pub mod ConeNetLemmas
+pub mod TreeNetLemmas
+pub mod ExampleNetLemmas
+pub mod PinOrders

@@ -1,0 +1,2 @@
+pub mod ConeNet
+pub mod TreeNet

@@ -1,0 +1,12 @@
+-- The depth falls.
+use Rattle.std.proofs.Common.{◌+◌, ◌*◌}
+use Rattle.vlog_tests.proofs.shown_stmt.+show.Given as goal
+
+abbrev pub decreases-show : goal.decreases-show
+decreases-show l = 3 * l.depth
+
+abbrev pub decreases-show_next : goal.decreases-show_next
+decreases-show_next l = 3 * l.depth + 1
+
+abbrev pub decreases-show_all : goal.decreases-show_all
+decreases-show_all l = 3 * l.depth + 2

@@ -1,0 +1,364 @@
+//! Statements, controls and stops as texts, for the tests.
+
+ghost use Rattle.std.specs.Prelude.{◌≡◌, ◌+◌, length, IfOk};
+
+use rdc_outside::{Place, Seq, Text};
+use sqlite_items::Boxed;
+use std::alloc::{AllocError, Global};
+use vlog_expr::{Cursor, Stuck};
+use vlog_lex::lex;
+use vlog_stmt::{control_at, loop_header, stmt};
+use vlog_tree::{
+    Arm, Assigns, Binary, Control, Edge, Event, Expr, Loop, Matching, Number, Part, Stmt,
+};
+
+// A text of one line, whose columns are counted from 0.
+fn text_of(alloc: Global, bytes: &[u8]) -> Result<Text, AllocError>
+    ensures { IfOk result (λ t. length t.places ≡ length t.bytes + 1) }
+{
+    let mut places = Vec::new(alloc);
+    for i in 0..bytes.len() {
+        let col = if i < 1000 { i as u32 } else { 1000 };
+        places.push(Place {
+            file: 0,
+            line: 1,
+            col,
+        })?;
+    }
+    places.push(Place {
+        file: 0,
+        line: 2,
+        col: 0,
+    })?;
+    Ok(Text {
+        bytes: Seq::from_vec(Vec::from_slice(alloc, bytes)?),
+        places: Seq::from_vec(places),
+        files: Seq::new(alloc),
+    })
+}
+
+fn bytes_shown(bytes: &[u8], out: &mut String) -> Result<(), AllocError> {
+    for b in bytes {
+        out.push(char::from(*b))?;
+    }
+    Ok(())
+}
+
+// Where a statement begins.
+fn column(alloc: Global, place: Place, out: &mut String) -> Result<(), AllocError> {
+    let col = place.col;
+    let shown = format!(in alloc; "@{col}")?;
+    out.push_str(shown.as_str())
+}
+
+// Width, s or u, bits, and the positions of z digits if there are any.
+fn number_shown(alloc: Global, n: Number, out: &mut String) -> Result<(), AllocError> {
+    let width = n.width;
+    let bits = n.bits;
+    let z = n.z;
+    let sign = if n.signed { "s" } else { "u" };
+    let shown = if z == 0 {
+        format!(in alloc; "{width}{sign}{bits}")?
+    } else {
+        format!(in alloc; "{width}{sign}{bits}z{z}")?
+    };
+    out.push_str(shown.as_str())
+}
+
+fn binary_shown(op: Binary) -> &'static str {
+    match op {
+        Binary::Add => "+",
+        Binary::Less => "<",
+        Binary::AtMost => "<=",
+        _ => "another operator",
+    }
+}
+
+fn part_shown(part: Part) -> &'static str {
+    match part {
+        Part::Fixed => "(: ",
+        Part::Up => "(+: ",
+        Part::Down => "(-: ",
+    }
+}
+
+// An expression in prefix form, down to some depth.
+#[cycle(show)]
+fn show(alloc: Global, e: &Expr, depth: usize, out: &mut String) -> Result<(), AllocError> {
+    if depth == 0 {
+        return Ok(());
+    }
+    match e {
+        Expr::Number(_, n) => number_shown(alloc, *n, out),
+        Expr::Name(_, name) => bytes_shown(name.as_slice(), out),
+        Expr::Index(_, name, i) => {
+            out.push_str("([] ")?;
+            bytes_shown(name.as_slice(), out)?;
+            show_next(alloc, i.get(), depth - 1, out)?;
+            out.push_str(")")
+        }
+        Expr::Select(_, name, part, i, j) => {
+            out.push_str(part_shown(*part))?;
+            bytes_shown(name.as_slice(), out)?;
+            show_next(alloc, i.get(), depth - 1, out)?;
+            show_next(alloc, j.get(), depth - 1, out)?;
+            out.push_str(")")
+        }
+        Expr::Concat(_, es) => {
+            out.push_str("({}")?;
+            show_all(alloc, es.as_slice(), depth - 1, out)?;
+            out.push_str(")")
+        }
+        Expr::Binary(_, op, a, b) => {
+            out.push_str("(")?;
+            out.push_str(binary_shown(*op))?;
+            show_next(alloc, a.get(), depth - 1, out)?;
+            show_next(alloc, b.get(), depth - 1, out)?;
+            out.push_str(")")
+        }
+        _ => out.push_str("another expression"),
+    }
+}
+
+#[cycle(show)]
+fn show_next(alloc: Global, e: &Expr, depth: usize, out: &mut String) -> Result<(), AllocError> {
+    out.push_str(" ")?;
+    show(alloc, e, depth, out)
+}
+
+#[cycle(show)]
+fn show_all(alloc: Global, es: &[Expr], depth: usize, out: &mut String) -> Result<(), AllocError> {
+    for e in es {
+        show_next(alloc, e, depth, out)?;
+    }
+    Ok(())
+}
+
+// A blank and an expression.
+fn value(alloc: Global, e: &Expr, out: &mut String) -> Result<(), AllocError> {
+    out.push_str(" ")?;
+    show(alloc, e, 300, out)
+}
+
+fn head_shown(alloc: Global, head: &Loop, out: &mut String) -> Result<(), AllocError> {
+    out.push_str(" ")?;
+    bytes_shown(head.variable.name.as_slice(), out)?;
+    value(alloc, &head.start, out)?;
+    value(alloc, &head.test, out)?;
+    out.push_str(" ")?;
+    bytes_shown(head.stepped.name.as_slice(), out)?;
+    value(alloc, &head.step, out)
+}
+
+// A statement in prefix form with the column where it begins, down to some depth.
+#[cycle(tell)]
+fn tell(alloc: Global, s: &Stmt, depth: usize, out: &mut String) -> Result<(), AllocError> {
+    if depth == 0 {
+        return Ok(());
+    }
+    match s {
+        Stmt::Empty(place) => {
+            out.push_str(";")?;
+            column(alloc, *place, out)
+        }
+        Stmt::Block(place, name, body) => {
+            out.push_str("(begin")?;
+            column(alloc, *place, out)?;
+            if let Some(name) = name {
+                out.push_str(" :")?;
+                bytes_shown(name.name.as_slice(), out)?;
+            }
+            tell_all(alloc, body.as_slice(), depth - 1, out)?;
+            out.push_str(")")
+        }
+        Stmt::Assign(place, target, by, e) => {
+            out.push_str(match by {
+                Assigns::Blocking => "(=",
+                Assigns::Nonblocking => "(<=",
+            })?;
+            column(alloc, *place, out)?;
+            value(alloc, target, out)?;
+            value(alloc, e, out)?;
+            out.push_str(")")
+        }
+        Stmt::If(place, test, yes, no) => {
+            out.push_str("(if")?;
+            column(alloc, *place, out)?;
+            value(alloc, test, out)?;
+            tell_next(alloc, yes.get(), depth - 1, out)?;
+            if let Some(no) = no {
+                tell_next(alloc, no.get(), depth - 1, out)?;
+            }
+            out.push_str(")")
+        }
+        Stmt::Case(place, matching, e, arms) => {
+            out.push_str(match matching {
+                Matching::Exact => "(case",
+                Matching::Wildcard => "(casez",
+            })?;
+            column(alloc, *place, out)?;
+            value(alloc, e, out)?;
+            tell_arms(alloc, arms.as_slice(), depth - 1, out)?;
+            out.push_str(")")
+        }
+        Stmt::For(place, head, body) => {
+            out.push_str("(for")?;
+            column(alloc, *place, out)?;
+            head_shown(alloc, head, out)?;
+            tell_next(alloc, body.get(), depth - 1, out)?;
+            out.push_str(")")
+        }
+    }
+}
+
+#[cycle(tell)]
+fn tell_next(alloc: Global, s: &Stmt, depth: usize, out: &mut String) -> Result<(), AllocError> {
+    out.push_str(" ")?;
+    tell(alloc, s, depth, out)
+}
+
+#[cycle(tell)]
+fn tell_all(alloc: Global, ss: &[Stmt], depth: usize, out: &mut String) -> Result<(), AllocError> {
+    for s in ss {
+        tell_next(alloc, s, depth, out)?;
+    }
+    Ok(())
+}
+
+#[cycle(tell)]
+fn tell_arms(
+    alloc: Global,
+    arms: &[Arm<Boxed<Stmt>>],
+    depth: usize,
+    out: &mut String,
+) -> Result<(), AllocError> {
+    for arm in arms {
+        out.push_str(" (")?;
+        column(alloc, arm.place, out)?;
+        labels_shown(alloc, arm.labels.as_slice(), out)?;
+        out.push_str(" :")?;
+        tell_next(alloc, arm.body.get(), depth, out)?;
+        out.push_str(")")?;
+    }
+    Ok(())
+}
+
+fn labels_shown(alloc: Global, labels: &[Expr], out: &mut String) -> Result<(), AllocError> {
+    for label in labels {
+        value(alloc, label, out)?;
+    }
+    Ok(())
+}
+
+fn event_shown(alloc: Global, event: &Event, out: &mut String) -> Result<(), AllocError> {
+    out.push_str(match event.edge {
+        Edge::Any => " ",
+        Edge::Rising => " posedge ",
+        Edge::Falling => " negedge ",
+    })?;
+    bytes_shown(event.name.name.as_slice(), out)?;
+    match &event.index {
+        None => Ok(()),
+        Some(i) => {
+            out.push_str(" at")?;
+            value(alloc, i, out)
+        }
+    }
+}
+
+fn events_shown(alloc: Global, events: &[Event], out: &mut String) -> Result<(), AllocError> {
+    for event in events {
+        event_shown(alloc, event, out)?;
+    }
+    Ok(())
+}
+
+// Why a reader stopped, and in front of which token.
+fn stop_shown(alloc: Global, why: Stuck, cursor: &Cursor<'_>) -> Result<String, AllocError> {
+    let word = match why {
+        Stuck::Memory => "Memory",
+        Stuck::Wrong => "Wrong",
+        Stuck::Deep => "Deep",
+    };
+    if cursor.left() == 0 {
+        return format!(in alloc; "{word} at the end");
+    }
+    let col = cursor.place().col;
+    format!(in alloc; "{word} at {col}")
+}
+
+// How many tokens are left, behind what was shown.
+fn left_shown(alloc: Global, cursor: &Cursor<'_>, out: &mut String) -> Result<(), AllocError> {
+    let left = cursor.left();
+    let shown = format!(in alloc; ", {left}")?;
+    out.push_str(shown.as_str())
+}
+
+// The statement that a line begins with and how many tokens it leaves; or where its reader stops.
+pub(crate) fn statement(alloc: Global, room: usize, bytes: &[u8]) -> Result<String, AllocError> {
+    let text = text_of(alloc, bytes)?;
+    let Ok(tokens) = lex(alloc, &text) else {
+        return String::from_str(alloc, "no tokens");
+    };
+    let mut cursor = Cursor::new(
+        text.bytes.as_slice(),
+        text.places.as_slice(),
+        tokens.as_slice(),
+    );
+    match stmt(alloc, &mut cursor, room) {
+        Err(why) => stop_shown(alloc, why, &cursor),
+        Ok(s) => {
+            let mut out = String::new(alloc);
+            tell(alloc, &s, 300, &mut out)?;
+            left_shown(alloc, &cursor, &mut out)?;
+            Ok(out)
+        }
+    }
+}
+
+// The same of what stands behind `@`.
+pub(crate) fn control(alloc: Global, depth: usize, bytes: &[u8]) -> Result<String, AllocError> {
+    let text = text_of(alloc, bytes)?;
+    let Ok(tokens) = lex(alloc, &text) else {
+        return String::from_str(alloc, "no tokens");
+    };
+    let mut cursor = Cursor::new(
+        text.bytes.as_slice(),
+        text.places.as_slice(),
+        tokens.as_slice(),
+    );
+    match control_at(alloc, &mut cursor, depth) {
+        Err(why) => stop_shown(alloc, why, &cursor),
+        Ok(found) => {
+            let mut out = String::new(alloc);
+            match &found {
+                Control::Reads => out.push_str("*")?,
+                Control::Events(events) => events_shown(alloc, events.as_slice(), &mut out)?,
+            }
+            left_shown(alloc, &cursor, &mut out)?;
+            Ok(out)
+        }
+    }
+}
+
+// The same of what stands behind `for`.
+pub(crate) fn header(alloc: Global, room: usize, bytes: &[u8]) -> Result<String, AllocError> {
+    let text = text_of(alloc, bytes)?;
+    let Ok(tokens) = lex(alloc, &text) else {
+        return String::from_str(alloc, "no tokens");
+    };
+    let mut cursor = Cursor::new(
+        text.bytes.as_slice(),
+        text.places.as_slice(),
+        tokens.as_slice(),
+    );
+    match loop_header(alloc, &mut cursor, room) {
+        Err(why) => stop_shown(alloc, why, &cursor),
+        Ok(head) => {
+            let mut out = String::new(alloc);
+            head_shown(alloc, &head, &mut out)?;
+            left_shown(alloc, &cursor, &mut out)?;
+            Ok(out)
+        }
+    }
+}
