@@ -12,7 +12,7 @@ use Rattle.design_form.specs.Bits.{bits}
 use Rattle.design_form.specs.Selects.{Seen}
 use Rattle.design_form.specs.Values.{Valued, valued, valued_by_parts, fixed, named, index_valued, select_valued, concat_valued, repeat_valued, count_alone, unary_valued, binary_valued, choice_valued}
 
-firsts : {A B : Type 0} (f : A → B) (xs : List A) → map (λ p. p.1) (map (λ x. let q : A × B = (x, f x) in q) xs) ≡ map f xs
+pub firsts : {A B : Type 0} (f : A → B) (xs : List A) → map (λ p. p.1) (map (λ x. let q : A × B = (x, f x) in q) xs) ≡ map f xs
 firsts f [] = refl
 firsts {A} {B} f (x ∷ xs) = ap (λ (ys : List B). f x ∷ ys) (firsts f xs)
 

@@ -1,5 +1,6 @@
 //! Widths and signs of expressions by themselves.
 ghost use Rattle.std.specs.Prelude.{◌≡◌, ◌*◌, ◌<◌, ◌^◌, map, IfOk};
+ghost use Rattle.vlog_const.specs.Widths.{common, left_context, right_context};
 ghost use Rattle.design_form.specs.Extents.{shape_of, view_of};
 ghost use Rattle.design_form.specs.Selects.{Seen};
 ghost use Rattle.design_form.specs.Values.{joined_width, select_width, valued};
@@ -7,14 +8,14 @@ ghost use Rattle.design_form.specs.State.{seen_in};
 
 use crate::constants::{count, number};
 use crate::design::Design;
-use crate::extent::{Extent, extent_in, possible, unsigned};
+use crate::extent::{Extent, extent_in, left_in, possible, right_in, unsigned};
 use crate::fault::EvalFault;
 use crate::seen::{View, seen};
 use crate::selects::part_width;
 use rdc_tern::Tern;
 use std::alloc::Global;
 use vlog_const::{family, operand_family};
-use vlog_tree::{Expr, Part};
+use vlog_tree::{Binary, Expr, Part};
 
 /// How many bits a select has.
 #[tactic(auto, unfolding(crate::specs::Values::select_width))]
@@ -117,4 +118,36 @@ fn joined_width(
         };
     }
     Ok(width)
+}
+
+/// The contexts of an operator's operands, and whether both are signed.
+#[derive(Clone, Copy)]
+pub(crate) struct Handed {
+    pub(crate) left: Extent,
+    pub(crate) right: Extent,
+    pub(crate) signed: bool,
+}
+
+/// What an operator hands to its operands in a context.
+#[tactic(auto, unfolding(vlog_const::specs::Widths::left_context, vlog_const::specs::Widths::right_context))]
+pub(crate) fn sides(
+    alloc: Global,
+    design: &Design,
+    state: &[Tern],
+    op: Binary,
+    left: &Expr,
+    right: &Expr,
+    context: Extent,
+) -> Result<Handed, EvalFault>
+    ensures left { IfOk result (λ s. shape_of s.left ≡ left_context op (valued (seen_in design.now state.now) left.now).shape (valued (seen_in design.now state.now) right.now).shape (shape_of context)) }
+    ensures right { IfOk result (λ s. shape_of s.right ≡ right_context op (valued (seen_in design.now state.now) left.now).shape (valued (seen_in design.now state.now) right.now).shape (shape_of context)) }
+    ensures signed { IfOk result (λ s. s.signed ≡ (common (valued (seen_in design.now state.now) left.now).shape (valued (seen_in design.now state.now) right.now).shape).signed) }
+{
+    let a = extent(alloc, design, state, left)?;
+    let b = extent(alloc, design, state, right)?;
+    Ok(Handed {
+        left: left_in(family(op), a, b, context),
+        right: right_in(family(op), a, b, context),
+        signed: a.common(b).signed,
+    })
 }
