@@ -31,9 +31,9 @@ said-Index : (place : Place) (called : List ℕ) (i : Expr) → said (e.Index pl
 unfolding said said_by_parts
 said-Index place called i = ap said (sym (e.rolls-Index place called i)) ∙ fold-roll-Expr (Option tree.Expr) said_by_parts (Expr-F.Index place called i)
 
-said-Select : (place : Place) (called : List ℕ) (part : Part) (i j : Expr) → said (e.Select place called part i j) ≡ None
+said-Select : (place : Place) (called : List ℕ) (part : Part) (i j : Expr) → said (e.Select part place called i j) ≡ None
 unfolding said said_by_parts
-said-Select place called part i j = ap said (sym (e.rolls-Select place called part i j)) ∙ fold-roll-Expr (Option tree.Expr) said_by_parts (Expr-F.Select place called part i j)
+said-Select place called part i j = ap said (sym (e.rolls-Select part place called i j)) ∙ fold-roll-Expr (Option tree.Expr) said_by_parts (Expr-F.Select part place called i j)
 
 said-Brackets : (place : Place) (i : Expr) → said (e.Brackets place i) ≡ option_map tree.Brackets (said i)
 unfolding said said_by_parts

@@ -112,7 +112,10 @@ pub(crate) fn bit(e: &Expr) -> Option<bool>
     ensures { result ≡ bit_of e.now }
 {
     match e {
-        Expr::Number(_, n) => { if is_bit(n) { Some(n.bits != 0) } else { None } }
+        Expr::Number(_, n) => {
+            let n = n.get();
+            if is_bit(n) { Some(n.bits != 0) } else { None }
+        }
         _ => None,
     }
 }

@@ -23,7 +23,7 @@ worth_by_parts values (Expr-F.Index place name index) = do
   i ← index
   at ← alone i
   Ok (index_worth place v at)
-worth_by_parts values (Expr-F.Select place name part first second) = do
+worth_by_parts values (Expr-F.Select part place name first second) = do
   v ← selected values place name
   a ← first
   i ← alone a

@@ -62,14 +62,14 @@ fn operand(alloc: Global, e: &Expr, env: &Env) -> Result<Operand, ConstFault>
     ensures bound { IfOk result (λ a. a.shape.width ≤ 128) }
 {
     match e {
-        Expr::Number(place, n) => number(*place, n),
+        Expr::Number(place, n) => number(*place, n.get()),
         Expr::Name(place, name) => named(*place, name.as_slice(), env),
         Expr::Index(place, name, at) => {
             let value = selected(*place, name.as_slice(), env)?;
             let at = alone(alloc, at.get(), env)?;
             Ok(index(*place, value, at))
         }
-        Expr::Select(place, name, part, first, second) => {
+        Expr::Select(part, place, name, first, second) => {
             let value = selected(*place, name.as_slice(), env)?;
             let first = alone(alloc, first.get(), env)?;
             let second = alone(alloc, second.get(), env)?;

@@ -192,10 +192,10 @@ mutual
       let us' = is ++ mark ∷ vs in
       let read = ap (expr room 0) (append_assoc is (mark ∷ vs) rest) ∙ inside_read (complete inside) s.some room mark (vs ++ rest) (omega arith) (quiet_part mark part seen) in
       let reads = ap (expr room 0) (append_assoc js (close ∷ []) rest) ∙ inside_read (complete second) t.some room close rest (omega arith) (quiet_square close closes) in
-      moved (first_reached room level l (left ∷ us') (e.Select l.place called part i j) rest
+      moved (first_reached room level l (left ∷ us') (e.Select part l.place called i j) rest
       (read_primary room (expr room) level l.place l (left ∷ (us' ++ rest)) (no_sign l (called_mark l called known))
       ∙ read_select room (expr room) l.place l left mark close (us' ++ rest) (vs ++ rest) rest called part i j known opens (omega arith) read seen reads closes))
-      parts (xe ∙ ap (λ p. e.Select p called part i j) (start_at us l (left ∷ us') parts))
+      parts (xe ∙ ap (λ p. e.Select part p called i j) (start_at us l (left ∷ us') parts))
   complete {us = us} (brackets left close is i opens inside closes parts xe) room level rest low shallow follows unopened =
       let deep = ap depth xe ∙ depth-Brackets (start us) i in
       let s = sized inside in

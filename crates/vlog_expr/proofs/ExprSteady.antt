@@ -42,7 +42,7 @@ module _ (k room more : ℕ) (inner outer : ℕ → Reader Expr) (few : k ≤ ro
   unfolding select_by
   select_by_steady place called i None = let built = steady_expect (codes "]") >> steady_pure (e.Index place called i) in built
   select_by_steady place called i (Some part) =
-      let built = steady_advance >> (parts 0 >>= (λ j. steady_expect (codes "]") >> steady_pure (e.Select place called part i j))) in built
+      let built = steady_advance >> (parts 0 >>= (λ j. steady_expect (codes "]") >> steady_pure (e.Select part place called i j))) in built
 
   select_steady : (place : Place) (called : List ℕ) → SteadyPast k (select room inner place called) (select more outer place called)
   unfolding select

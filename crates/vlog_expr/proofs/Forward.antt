@@ -61,7 +61,7 @@ module _ (room : ℕ) (inner : ℕ → Reader Expr) where
 
   pub read_select : (place : Place) (l left mark right : Lexeme) (ls mid rest : List Lexeme) (called : List ℕ) (part : Part) (i j : Expr) → name_of l ≡ Some called → IsMark (codes "[") left → 1 ≤ room
       → inner 0 ls ≡ (Ok i, mark ∷ mid) → part_of (mark_of mark) ≡ Some part → inner 0 mid ≡ (Ok j, right ∷ rest) → IsMark (codes "]") right
-      → primary room inner place (l ∷ left ∷ ls) ≡ (Ok (e.Select place called part i j), rest)
+      → primary room inner place (l ∷ left ∷ ls) ≡ (Ok (e.Select part place called i j), rest)
   unfolding select select_by part_if mark_if expect sees first
   read_select place l left mark right ls mid rest called part i j known opens some read seen second closes =
       at_select place l left ls called known opens some ∙ rw (read, seen, second, closes)

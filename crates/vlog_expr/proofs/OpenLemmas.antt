@@ -12,7 +12,7 @@ open_by_parts : Expr-F Bool → Bool
 open_by_parts (Expr-F.Number place x) = false
 open_by_parts (Expr-F.Name place called) = true
 open_by_parts (Expr-F.Index place called i) = false
-open_by_parts (Expr-F.Select place called part i j) = false
+open_by_parts (Expr-F.Select part place called i j) = false
 open_by_parts (Expr-F.Brackets place i) = false
 open_by_parts (Expr-F.Concat place is) = false
 open_by_parts (Expr-F.Repeat place c is) = false
@@ -36,9 +36,9 @@ pub open-Name : (place : Place) (called : List ℕ) → ends_open (Name place ca
 unfolding ends_open open_by_parts
 open-Name place called = ap ends_open (sym (rolls-Name place called)) ∙ fold-roll-Expr Bool open_by_parts (Expr-F.Name place called)
 
-pub open-Select : (place : Place) (called : List ℕ) (part : Part) (i j : Expr) → ends_open (Select place called part i j) ≡ false
+pub open-Select : (place : Place) (called : List ℕ) (part : Part) (i j : Expr) → ends_open (Select part place called i j) ≡ false
 unfolding ends_open open_by_parts
-open-Select place called part i j = ap ends_open (sym (rolls-Select place called part i j)) ∙ fold-roll-Expr Bool open_by_parts (Expr-F.Select place called part i j)
+open-Select place called part i j = ap ends_open (sym (rolls-Select part place called i j)) ∙ fold-roll-Expr Bool open_by_parts (Expr-F.Select part place called i j)
 
 pub open-Brackets : (place : Place) (i : Expr) → ends_open (Brackets place i) ≡ false
 unfolding ends_open open_by_parts

@@ -85,10 +85,10 @@ module _ (room : ℕ) (inner : ℕ → Reader Expr) (read : (level : ℕ) (ls : 
       → select_by room inner l.place called i (Some part_is) (mark ∷ mid) ≡ (Ok x, rest) → SoundPrimary (suc room) l (left ∷ ls) x rest
   unfolding select_by start
   part_sound l left mark called ls mid part_is i x rest s name opens parts h =
-      let j = went (inner 0 mid).0 (inner 0 mid).1 (λ j. expect (codes "]") >> pure (e.Select l.place called part_is i j)) x rest h in
+      let j = went (inner 0 mid).0 (inner 0 mid).1 (λ j. expect (codes "]") >> pure (e.Select part_is l.place called i j)) x rest h in
       let t = part 0 mid j.answer j.was in
-      let m = met (codes "]") (inner 0 mid).1 (pure (e.Select l.place called part_is i j.answer)) x rest j.onwards in
-      let g = gave (e.Select l.place called part_is i j.answer) m.mid x rest m.onwards in
+      let m = met (codes "]") (inner 0 mid).1 (pure (e.Select part_is l.place called i j.answer)) x rest j.onwards in
+      let g = gave (e.Select part_is l.place called i j.answer) m.mid x rest m.onwards in
       let deep = ap depth g.same ∙ depth-Select l.place called part_is i j.answer in
       let inside = s.shallow in
       let beside = t.shallow in

@@ -47,7 +47,7 @@ module _ (room : ℕ) (inner : ℕ → Reader Expr) where
     advance
     j ← inner 0
     expect (codes "]")
-    pure (e.Select place called part i j)
+    pure (e.Select part place called i j)
 
   unfoldable pub select : Place → List ℕ → Reader Expr
   select place called = do

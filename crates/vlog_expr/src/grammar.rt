@@ -10,9 +10,9 @@ use crate::cursor::{Cursor, Next};
 use crate::measured::{Measured, MeasuredList};
 use crate::operators::level_of;
 use crate::stuck::Stuck;
-use rdc_outside::{Place, Seq};
+use rdc_outside::Place;
 use std::alloc::Global;
-use vlog_tree::{Binary, Part};
+use vlog_tree::{Binary, Name, Part};
 
 #[derive(Clone, Copy)]
 pub(crate) struct Grammar<F> {
@@ -51,7 +51,7 @@ impl<F: Fn(Global, &mut Cursor<'_>, usize, u8) -> Result<Measured, Stuck>> Gramm
         &self,
         cursor: &mut Cursor<'_>,
         place: Place,
-        name: Seq<u8>,
+        name: Name,
         first: Measured,
     ) -> Result<Measured, Stuck>
         requires nests { Nests self.now.room (F.pre self.now.expr) (F.post self.now.expr) }
@@ -69,7 +69,7 @@ impl<F: Fn(Global, &mut Cursor<'_>, usize, u8) -> Result<Measured, Stuck>> Gramm
         &self,
         cursor: &mut Cursor<'_>,
         place: Place,
-        name: Seq<u8>,
+        name: Name,
         part: Part,
         first: Measured,
     ) -> Result<Measured, Stuck>
@@ -86,12 +86,7 @@ impl<F: Fn(Global, &mut Cursor<'_>, usize, u8) -> Result<Measured, Stuck>> Gramm
 
     /// expr [ ":" expr ] "]" behind a name and "["
     #[tactic(auto, unfolding(crate::specs::Exprs::select))]
-    fn select(
-        &self,
-        cursor: &mut Cursor<'_>,
-        place: Place,
-        name: Seq<u8>,
-    ) -> Result<Measured, Stuck>
+    fn select(&self, cursor: &mut Cursor<'_>, place: Place, name: Name) -> Result<Measured, Stuck>
         requires nests { Nests self.now.room (F.pre self.now.expr) (F.post self.now.expr) }
         ensures value { Reads (spec.select self.now.room (spec.expr self.now.room) place name cursor.old) result cursor.new }
         ensures within { IfOk result (λ x. depth x ≤ self.now.room + 1) }
@@ -111,7 +106,7 @@ impl<F: Fn(Global, &mut Cursor<'_>, usize, u8) -> Result<Measured, Stuck>> Gramm
         ensures value { Reads (spec.named self.now.room (spec.expr self.now.room) place name.now cursor.old) result cursor.new }
         ensures within { IfOk result (λ x. depth x ≤ self.now.room + 1) }
     {
-        let name = Seq::from_vec(name.to_vec(self.alloc)?);
+        let name = Name::from_slice(self.alloc, name)?;
         if !cursor.sees(b"[") {
             return Ok(Measured::name(place, name));
         }
@@ -193,7 +188,7 @@ impl<F: Fn(Global, &mut Cursor<'_>, usize, u8) -> Result<Measured, Stuck>> Gramm
         let mut members = MeasuredList::of(self.alloc, first)?;
         self.others(cursor, &mut members)?;
         cursor.expect(b"}")?;
-        Ok(Measured::concat(place, members))
+        Ok(Measured::concat(self.alloc, place, members)?)
     }
 
     /// "{" L(expr) "}" | "{" expr "{" L(expr) "}" "}"
@@ -253,7 +248,7 @@ impl<F: Fn(Global, &mut Cursor<'_>, usize, u8) -> Result<Measured, Stuck>> Gramm
     {
         if let Some(number) = cursor.number() {
             cursor.advance();
-            return Ok(Measured::number(place, number));
+            return Ok(Measured::number(self.alloc, place, number)?);
         }
         let Some(name) = cursor.name() else {
             return self.group(cursor, place);

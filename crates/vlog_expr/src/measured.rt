@@ -4,11 +4,11 @@ ghost use Rattle.std.specs.Prelude.{◌≡◌, ◌+◌, ◌<◌, ◌^◌, [], �
 ghost use Rattle.vlog_tree.specs.declared.expr.Expr.TheVariants as e;
 ghost use Rattle.vlog_tree.specs.Depth.{depth, deepest_of};
 
-use rdc_outside::{Place, Seq};
+use rdc_outside::Place;
 use sqlite_items::{Boxed, Items};
 use std::alloc::{AllocError, Global};
 use std::marker::Model;
-use vlog_tree::{Binary, Expr, Number, Part, Unary};
+use vlog_tree::{Binary, Expr, Name, Number, Part, Unary, fitted, sole};
 
 /// An expression, and how deep it is.
 #[derive(Drop)]
@@ -74,16 +74,20 @@ impl Measured {
         expr
     }
 
-    pub(crate) fn number(place: Place, number: Number) -> Measured
-        ensures { result ≡ e.Number place number }
+    pub(crate) fn number(
+        alloc: Global,
+        place: Place,
+        number: Number,
+    ) -> Result<Measured, AllocError>
+        ensures { IfOk result (λ m. m ≡ e.Number place number) }
     {
-        Measured {
-            expr: Expr::Number(place, number),
+        Ok(Measured {
+            expr: Expr::Number(place, Boxed::new(alloc, number)?),
             levels: 1,
-        }
+        })
     }
 
-    pub(crate) fn name(place: Place, name: Seq<u8>) -> Measured
+    pub(crate) fn name(place: Place, name: Name) -> Measured
         ensures { result ≡ e.Name place name }
     {
         Measured {
@@ -95,7 +99,7 @@ impl Measured {
     pub(crate) fn index(
         alloc: Global,
         place: Place,
-        name: Seq<u8>,
+        name: Name,
         index: Measured,
     ) -> Result<Measured, AllocError>
         requires { depth index + 1 < 2 ^ 64 }
@@ -111,20 +115,20 @@ impl Measured {
     pub(crate) fn select(
         alloc: Global,
         place: Place,
-        name: Seq<u8>,
+        name: Name,
         part: Part,
         first: Measured,
         second: Measured,
     ) -> Result<Measured, AllocError>
         requires left { depth first + 1 < 2 ^ 64 }
         requires right { depth second + 1 < 2 ^ 64 }
-        ensures { IfOk result (λ m. m ≡ e.Select place name part first second) }
+        ensures { IfOk result (λ m. m ≡ e.Select part place name first second) }
     {
         let levels = first.levels.max(second.levels) + 1;
         let left = Boxed::new(alloc, first.into_expr())?;
         let right = Boxed::new(alloc, second.into_expr())?;
         Ok(Measured {
-            expr: Expr::Select(place, name, part, left, right),
+            expr: Expr::Select(part, place, name, left, right),
             levels,
         })
     }
@@ -144,15 +148,19 @@ impl Measured {
         })
     }
 
-    pub(crate) fn concat(place: Place, members: MeasuredList) -> Measured
+    pub(crate) fn concat(
+        alloc: Global,
+        place: Place,
+        members: MeasuredList,
+    ) -> Result<Measured, AllocError>
         requires { deepest_of depth members + 1 < 2 ^ 64 }
-        ensures { result ≡ e.Concat place members }
+        ensures { IfOk result (λ m. m ≡ e.Concat place members) }
     {
         let MeasuredList { exprs, levels } = members;
-        Measured {
-            expr: Expr::Concat(place, exprs),
+        Ok(Measured {
+            expr: Expr::Concat(place, fitted(alloc, exprs)?),
             levels: levels + 1,
-        }
+        })
     }
 
     pub(crate) fn repeat(
@@ -167,6 +175,7 @@ impl Measured {
     {
         let levels = count.levels.max(members.levels) + 1;
         let MeasuredList { exprs, levels: _ } = members;
+        let exprs = fitted(alloc, exprs)?;
         let count = Boxed::new(alloc, count.into_expr())?;
         Ok(Measured {
             expr: Expr::Repeat(place, count, exprs),
@@ -241,8 +250,7 @@ impl MeasuredList {
         ensures deep { IfOk result (λ m. deepest_of depth m ≡ depth first) }
     {
         let Measured { expr, levels } = first;
-        let mut exprs = Items::new(alloc);
-        exprs.push(expr)?;
+        let exprs = sole(alloc, expr)?;
         Ok(MeasuredList { exprs, levels })
     }
 

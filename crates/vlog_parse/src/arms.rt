@@ -13,7 +13,7 @@ use rdc_outside::Place;
 use sqlite_items::Items;
 use std::alloc::Global;
 use vlog_expr::{Cursor, Stuck, plain_expr};
-use vlog_tree::{Arm, Block, Item};
+use vlog_tree::{Arm, Block, Item, fitted};
 
 /// A default may still follow a case item.
 fn may_follow(may: bool, other: bool) -> bool
@@ -111,7 +111,7 @@ impl<F: Fn(Global, &mut Cursor<'_>, usize) -> Result<Item, Stuck>> Holding<F> {
             may = may_follow(may, other);
         }
         cursor.advance();
-        Ok(found)
+        Ok(fitted(self.alloc, found)?)
     }
 
     /// "case" "(" expr ")" { case item } "endcase"

@@ -15,11 +15,11 @@ use crate::declarations::{
 use crate::heads::{Head, head_of};
 use crate::lists::{Piece, until};
 use rdc_outside::Place;
-use sqlite_items::Items;
+use sqlite_items::{Boxed, Items};
 use std::alloc::Global;
 use vlog_expr::{Cursor, Stuck, plain_expr};
 use vlog_stmt::{ident, loop_header};
-use vlog_tree::{Block, Ident, Item, Loop};
+use vlog_tree::{Block, Ident, Item, Loop, sole};
 
 /// What holds items no deeper than `room`, and is itself an item or a part of one.
 #[derive(Clone, Copy)]
@@ -54,14 +54,14 @@ fn label(alloc: Global, cursor: &mut Cursor<'_>) -> Result<Ident, Stuck>
 
 /// [ ":" id ]
 #[tactic(auto, unfolding(crate::specs::Lists::optional))]
-fn maybe_label(alloc: Global, cursor: &mut Cursor<'_>) -> Result<Option<Ident>, Stuck>
+fn maybe_label(alloc: Global, cursor: &mut Cursor<'_>) -> Result<Option<Boxed<Ident>>, Stuck>
     ensures { Reads (optional (sees (codes ":")) spec.label cursor.old) result cursor.new }
 {
     if !cursor.sees(b":") {
         return Ok(None);
     }
     let name = label(alloc, cursor)?;
-    Ok(Some(name))
+    Ok(Some(Boxed::new(alloc, name)?))
 }
 
 impl<F: Fn(Global, &mut Cursor<'_>, usize) -> Result<Item, Stuck>> Holding<F> {
@@ -130,9 +130,10 @@ impl<F: Fn(Global, &mut Cursor<'_>, usize) -> Result<Item, Stuck>> Holding<F> {
             });
         }
         let one = self.read(cursor)?;
-        let mut items = Items::new(self.alloc);
-        items.push(one)?;
-        Ok(Block { name: None, items })
+        Ok(Block {
+            name: None,
+            items: sole(self.alloc, one)?,
+        })
     }
 
     /// item | ";" | "begin" [ ":" id ] { item } "end"

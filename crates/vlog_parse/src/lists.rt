@@ -9,7 +9,7 @@ use sqlite_items::Items;
 use std::alloc::Global;
 use vlog_expr::{Cursor, Stuck, plain_expr};
 use vlog_stmt::ident;
-use vlog_tree::{Expr, Ident};
+use vlog_tree::{Expr, Ident, fitted, sole};
 
 /// What a list repeats.
 pub(crate) trait Piece {
@@ -58,10 +58,9 @@ pub(crate) fn commas<P: Piece>(
     ensures { Reads (spec.commas (P.reader piece.now) cursor.old) result cursor.new }
 {
     let first = piece.read(cursor)?;
-    let mut found = Items::new(alloc);
-    found.push(first)?;
+    let mut found = sole(alloc, first)?;
     others(piece, cursor, &mut found)?;
-    Ok(found)
+    Ok(fitted(alloc, found)?)
 }
 
 /// { piece } and the word
@@ -83,7 +82,7 @@ pub(crate) fn until<P: Piece>(
         found.push(next)?;
     }
     cursor.advance();
-    Ok(found)
+    Ok(fitted(alloc, found)?)
 }
 
 /// Names.

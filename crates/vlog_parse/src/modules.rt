@@ -14,7 +14,7 @@ use sqlite_items::Items;
 use std::alloc::Global;
 use vlog_expr::{Cursor, Stuck};
 use vlog_stmt::{ident, took_word};
-use vlog_tree::{Item, Module, Parameter, Port};
+use vlog_tree::{Item, Module, Parameter, Port, fitted, sole};
 
 /// [ "signed" ] [ range ] id "=" expr
 #[tactic(auto, unfolding(crate::specs::Modules::parameter))]
@@ -60,10 +60,9 @@ fn parameter_list(
 {
     cursor.expect_word(b"parameter")?;
     let first = parameter(alloc, cursor, room)?;
-    let mut found = Items::new(alloc);
-    found.push(first)?;
+    let mut found = sole(alloc, first)?;
     others(&Further { alloc, room }, cursor, &mut found)?;
-    Ok(found)
+    Ok(fitted(alloc, found)?)
 }
 
 /// "#" "(" .. ")"
@@ -160,10 +159,9 @@ fn ansi_list(alloc: Global, cursor: &mut Cursor<'_>, room: usize) -> Result<Item
     ensures { Reads (spec.ansi_list room cursor.old) result cursor.new }
 {
     let first = ansi(alloc, cursor, room)?;
-    let mut found = Items::new(alloc);
-    found.push(first)?;
+    let mut found = sole(alloc, first)?;
     others(&AnyPorts { alloc, room }, cursor, &mut found)?;
-    Ok(found)
+    Ok(fitted(alloc, found)?)
 }
 
 /// L(id) | ansi { "," ( ansi | id ) }

@@ -6,6 +6,7 @@ ghost use Rattle.vlog_parse.specs.Lists.{optional};
 ghost use Rattle.vlog_parse.specs.Parts as spec;
 
 use crate::lists::Piece;
+use sqlite_items::Boxed;
 use std::alloc::Global;
 use vlog_expr::{Cursor, Stuck, plain_expr};
 use vlog_stmt::{ident, target, took_word};
@@ -26,14 +27,18 @@ fn range(alloc: Global, cursor: &mut Cursor<'_>, room: usize) -> Result<Range, S
 
 /// [ range ]
 #[tactic(auto, unfolding(crate::specs::Lists::optional))]
-fn across(alloc: Global, cursor: &mut Cursor<'_>, room: usize) -> Result<Option<Range>, Stuck>
+fn across(
+    alloc: Global,
+    cursor: &mut Cursor<'_>,
+    room: usize,
+) -> Result<Option<Boxed<Range>>, Stuck>
     ensures { Reads (optional (sees (codes "[")) (spec.range room) cursor.old) result cursor.new }
 {
     if !cursor.sees(b"[") {
         return Ok(None);
     }
     let found = range(alloc, cursor, room)?;
-    Ok(Some(found))
+    Ok(Some(Boxed::new(alloc, found)?))
 }
 
 /// [ "signed" ] [ range ]

@@ -107,7 +107,7 @@ parted room us es right closes (t.more comma is js x xs s marks o parts all) low
 
 module _ (room : ℕ) where
   abbrev SelectC : Place → List ℕ → Spelling Expr
-  SelectC place called = Behind (IsMark (codes "[")) (Row (Value room) (λ i. Known part_if (λ part. Row (Value room) (λ j. Behind (IsMark (codes "]")) (Nothing (e.Select place called part i j)))) (Behind (IsMark (codes "]")) (Nothing (e.Index place called i)))))
+  SelectC place called = Behind (IsMark (codes "[")) (Row (Value room) (λ i. Known part_if (λ part. Row (Value room) (λ j. Behind (IsMark (codes "]")) (Nothing (e.Select part place called i j)))) (Behind (IsMark (codes "]")) (Nothing (e.Index place called i)))))
 
   abbrev NamedC : Place → List ℕ → Spelling Expr
   NamedC place called us x next = Choose (sees (codes "[") (front us next)) (Roomy room (SelectC place called)) (Nothing (e.Name place called)) us x next
@@ -125,7 +125,7 @@ module _ (room : ℕ) where
     exact_select : (place : Place) (called : List ℕ) → Exact (select room inner place called) (SelectC place called)
     unfolding select part_end index_end part_if part_of mark_if mark_in
     exact_select place called =
-        let built = exact_mark (codes "[") (exact_value room >>= (λ i. exact_known part_if refl (λ part. exact_value room >>= (λ j. exact_mark (codes "]") (exact_pure (e.Select place called part i j)))) (exact_mark (codes "]") (exact_pure (e.Index place called i))))) in built
+        let built = exact_mark (codes "[") (exact_value room >>= (λ i. exact_known part_if refl (λ part. exact_value room >>= (λ j. exact_mark (codes "]") (exact_pure (e.Select part place called i j)))) (exact_mark (codes "]") (exact_pure (e.Index place called i))))) in built
 
     exact_named : (place : Place) (called : List ℕ) → Exact (named room inner place called) (NamedC place called)
     unfolding named
@@ -150,12 +150,12 @@ module _ (room : ℕ) where
 
   select_to : (place : Place) (us : List Lexeme) (l left : Lexeme) (is ws : List Lexeme) (called : List ℕ) (i x : Expr) (next : Option Lexeme)
       → name_of l ≡ Some called → IsMark (codes "[") left → SpellsPlain is i → depth i ≤ room → us ≡ l ∷ left ∷ (is ++ ws) → place ≡ start us
-      → Known part_if (λ part. Row (Value room) (λ j. Behind (IsMark (codes "]")) (Nothing (e.Select place called part i j)))) (Behind (IsMark (codes "]")) (Nothing (e.Index place called i))) ws x next → Aim (suc room) us x next
+      → Known part_if (λ part. Row (Value room) (λ j. Behind (IsMark (codes "]")) (Nothing (e.Select part place called i j)))) (Behind (IsMark (codes "]")) (Nothing (e.Index place called i))) ws x next → Aim (suc room) us x next
   select_to place us l left is ws called i x next known opens fst low whole at (there part mark js seen parts row) =
       let close = row.two in
       let second = row.one in
       let n = close.spelled in
-      let all : x ≡ e.Select (start us) called part i row.mid = n.same ∙ ap (λ z. e.Select z called part i row.mid) at in
+      let all : x ≡ e.Select part (start us) called i row.mid = n.same ∙ ap (λ z. e.Select part z called i row.mid) at in
       let deep = ap depth all ∙ depth-Select (start us) called part i row.mid in
       let lower = second.shallow in
       record {
@@ -253,7 +253,7 @@ module _ (room : ℕ) where
             mid = j;
             parts = refl;
             one = record { spelled = snd; shallow = omega arith; ended = quiet_ended j right (quiet_square right closes) };
-            two = record { lexeme = right; others = []; is = closes; parts = refl; spelled = record { none = refl; same = all ∙ ap (λ z. e.Select z called part i j) (sym (placed us l (left ∷ ws) next parts)) } };
+            two = record { lexeme = right; others = []; is = closes; parts = refl; spelled = record { none = refl; same = all ∙ ap (λ z. e.Select part z called i j) (sym (placed us l (left ∷ ws) next parts)) } };
           });
         };
       }))

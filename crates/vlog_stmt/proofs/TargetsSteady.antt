@@ -25,7 +25,7 @@ module _ (k room more : ℕ) (inner outer : Reader Expr) (few : room ≤ suc k) 
   part_end_steady : (place : Place) (called : List ℕ) (i : Expr) (part : Part) → Steady room (part_end room inner place called i part) (part_end more outer place called i part)
   unfolding part_end
   part_end_steady place called i part =
-      let built = plain_steady room more le >>= (λ j. steady_expect (codes "]") >> steady_pure (e.Select place called part i j)) in built
+      let built = plain_steady room more le >>= (λ j. steady_expect (codes "]") >> steady_pure (e.Select part place called i j)) in built
 
   select_steady : (place : Place) (called : List ℕ) → Steady room (select room inner place called) (select more outer place called)
   unfolding select

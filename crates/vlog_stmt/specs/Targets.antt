@@ -33,7 +33,7 @@ module _ (room : ℕ) (inner : Reader Expr) where
   part_end place called i part = do
     j ← value room
     expect (codes "]")
-    pure (e.Select place called part i j)
+    pure (e.Select part place called i j)
 
   unfoldable pub select : Place → List ℕ → Reader Expr
   select place called = do

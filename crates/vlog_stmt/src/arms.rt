@@ -14,7 +14,7 @@ use rdc_outside::Place;
 use sqlite_items::{Boxed, Items};
 use std::alloc::Global;
 use vlog_expr::{Cursor, Stuck, plain_expr};
-use vlog_tree::{Arm, Expr, Matching, Stmt};
+use vlog_tree::{Arm, Expr, Matching, Stmt, fitted};
 
 /// Case items with labels, up to `endcase`, and in front of the default up to `default`.
 #[derive(Clone, Copy)]
@@ -152,7 +152,8 @@ impl<F: Fn(Global, &mut Cursor<'_>, usize) -> Result<Stmt, Stuck>> Stmts<F> {
     {
         let mut found = Items::new(self.alloc);
         self.labelled_arms(cursor, matching, true, &mut found)?;
-        self.arms_behind(cursor, matching, found)
+        let arms = self.arms_behind(cursor, matching, found)?;
+        Ok(fitted(self.alloc, arms)?)
     }
 
     /// ( "case" | "casez" ) "(" expr ")" { case item } "endcase"

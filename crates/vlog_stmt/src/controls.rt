@@ -5,11 +5,11 @@ ghost use Rattle.vlog_expr.specs.Reading.{Reads, first};
 ghost use Rattle.vlog_stmt.specs.Controls as spec;
 
 use crate::lists::{Piece, many};
-use crate::words::{ident, took};
-use sqlite_items::Items;
+use crate::words::{boxed, ident, took};
+use sqlite_items::{Boxed, Items};
 use std::alloc::Global;
-use vlog_expr::{Cursor, Stuck, plain_expr};
-use vlog_tree::{Control, Edge, Event, Expr};
+use vlog_expr::{Cursor, Stuck};
+use vlog_tree::{Control, Edge, Event, Expr, fitted, sole};
 
 /// [ "posedge" | "negedge" ]
 #[tactic(auto, unfolding(crate::specs::Controls::edge, crate::specs::Controls::edge_if, crate::specs::Lists::known, crate::specs::Lists::known_by))]
@@ -29,7 +29,7 @@ fn edge_before(cursor: &mut Cursor<'_>) -> Result<Edge, Stuck>
 
 /// [ "[" expr "]" ]
 #[tactic(auto, unfolding(crate::specs::Controls::index))]
-fn index(alloc: Global, cursor: &mut Cursor<'_>, room: usize) -> Result<Option<Expr>, Stuck>
+fn index(alloc: Global, cursor: &mut Cursor<'_>, room: usize) -> Result<Option<Boxed<Expr>>, Stuck>
     ensures { Reads (spec.index room cursor.old) result cursor.new }
 {
     if !cursor.sees(b"[") {
@@ -39,7 +39,7 @@ fn index(alloc: Global, cursor: &mut Cursor<'_>, room: usize) -> Result<Option<E
         return Err(Stuck::Deep);
     }
     cursor.expect(b"[")?;
-    let index = plain_expr(alloc, cursor, room)?;
+    let index = boxed(alloc, cursor, room)?;
     cursor.expect(b"]")?;
     Ok(Some(index))
 }
@@ -102,11 +102,10 @@ fn events(alloc: Global, cursor: &mut Cursor<'_>, depth: usize) -> Result<Items<
     ensures { Reads (spec.events depth cursor.old) result cursor.new }
 {
     let first = one_event(alloc, cursor, depth)?;
-    let mut found = Items::new(alloc);
-    found.push(first)?;
+    let mut found = sole(alloc, first)?;
     let further = Further { alloc, depth };
     many(&further, cursor, &mut found)?;
-    Ok(found)
+    Ok(fitted(alloc, found)?)
 }
 
 /// ( "*" | ev { ( "or" | "," ) ev } ) ")"

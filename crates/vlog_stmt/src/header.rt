@@ -4,9 +4,10 @@ ghost use Rattle.std.specs.Prelude.{◌≡◌};
 ghost use Rattle.vlog_expr.specs.Reading.{Reads};
 ghost use Rattle.vlog_stmt.specs.Statements as spec;
 
-use crate::words::ident;
+use crate::words::{boxed, ident};
+use sqlite_items::Boxed;
 use std::alloc::Global;
-use vlog_expr::{Cursor, Stuck, plain_expr};
+use vlog_expr::{Cursor, Stuck};
 use vlog_tree::{Expr, Ident, Loop};
 
 /// id "=" expr ")" behind "(" id "=" expr ";" expr ";"
@@ -16,14 +17,14 @@ fn from_step(
     cursor: &mut Cursor<'_>,
     room: usize,
     variable: Ident,
-    start: Expr,
-    test: Expr,
+    start: Boxed<Expr>,
+    test: Boxed<Expr>,
 ) -> Result<Loop, Stuck>
     ensures { Reads (spec.header_step room variable start test cursor.old) result cursor.new }
 {
     let stepped = ident(alloc, cursor)?;
     cursor.expect(b"=")?;
-    let step = plain_expr(alloc, cursor, room)?;
+    let step = boxed(alloc, cursor, room)?;
     cursor.expect(b")")?;
     Ok(Loop {
         variable,
@@ -41,11 +42,11 @@ fn from_test(
     cursor: &mut Cursor<'_>,
     room: usize,
     variable: Ident,
-    start: Expr,
+    start: Boxed<Expr>,
 ) -> Result<Loop, Stuck>
     ensures { Reads (spec.header_test room variable start cursor.old) result cursor.new }
 {
-    let test = plain_expr(alloc, cursor, room)?;
+    let test = boxed(alloc, cursor, room)?;
     cursor.expect(b";")?;
     from_step(alloc, cursor, room, variable, start, test)
 }
@@ -58,7 +59,7 @@ pub fn loop_header(alloc: Global, cursor: &mut Cursor<'_>, room: usize) -> Resul
     cursor.expect(b"(")?;
     let variable = ident(alloc, cursor)?;
     cursor.expect(b"=")?;
-    let start = plain_expr(alloc, cursor, room)?;
+    let start = boxed(alloc, cursor, room)?;
     cursor.expect(b";")?;
     from_test(alloc, cursor, room, variable, start)
 }

@@ -10,6 +10,7 @@ ghost use Rattle.std.specs.Prelude.{Option, codes};
 use sqlite_items::Items;
 use std::alloc::Global;
 use vlog_expr::{Cursor, Stuck};
+use vlog_tree::{fitted, sole};
 
 /// What a list repeats.
 pub trait Piece {
@@ -90,8 +91,7 @@ pub fn commas<P: Piece>(
     ensures { Reads (spec.commas (P.reader piece.now) cursor.old) result cursor.new }
 {
     let first = piece.read(cursor)?;
-    let mut found = Items::new(alloc);
-    found.push(first)?;
+    let mut found = sole(alloc, first)?;
     many(&Further { piece }, cursor, &mut found)?;
-    Ok(found)
+    Ok(fitted(alloc, found)?)
 }

@@ -15,7 +15,7 @@ use rdc_outside::Place;
 use sqlite_items::{Boxed, Items};
 use std::alloc::Global;
 use vlog_expr::{Cursor, Stuck, plain_expr};
-use vlog_tree::{Assigns, Expr, Matching, Stmt};
+use vlog_tree::{Assigns, Expr, Matching, Stmt, fitted};
 
 /// Statements whose parts are no deeper than `room`.
 #[derive(Clone, Copy)]
@@ -95,7 +95,7 @@ impl<F: Fn(Global, &mut Cursor<'_>, usize) -> Result<Stmt, Stuck>> Stmts<F> {
         let mut stmts = Items::new(self.alloc);
         many(self, cursor, &mut stmts)?;
         cursor.expect_word(b"end")?;
-        Ok(Stmt::Block(place, name, stmts))
+        Ok(Stmt::Block(place, name, fitted(self.alloc, stmts)?))
     }
 
     /// [ "else" stmt ], which belongs to the nearest `if`

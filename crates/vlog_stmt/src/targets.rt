@@ -8,11 +8,12 @@ ghost use Rattle.std.specs.Prelude.{false};
 
 use crate::form::{begins_target, part};
 use crate::lists::{Piece, commas};
-use rdc_outside::{Place, Seq};
+use crate::words::boxed;
+use rdc_outside::Place;
 use sqlite_items::Boxed;
 use std::alloc::Global;
-use vlog_expr::{Cursor, Stuck, plain_expr};
-use vlog_tree::{Expr, Part};
+use vlog_expr::{Cursor, Stuck};
+use vlog_tree::{Expr, Name, Part};
 
 /// Targets whose parts are no deeper than `room`.
 #[derive(Clone, Copy)]
@@ -48,13 +49,13 @@ impl<F: Fn(Global, &mut Cursor<'_>, usize) -> Result<Expr, Stuck>> Targets<F> {
         &self,
         cursor: &mut Cursor<'_>,
         place: Place,
-        name: Seq<u8>,
-        index: Expr,
+        name: Name,
+        index: Boxed<Expr>,
     ) -> Result<Expr, Stuck>
         ensures { Reads (spec.index_end self.now.room (spec.target self.now.room) place name index cursor.old) result cursor.new }
     {
         cursor.expect(b"]")?;
-        Ok(Expr::Index(place, name, Boxed::new(self.alloc, index)?))
+        Ok(Expr::Index(place, name, index))
     }
 
     /// expr "]" behind a name, "[", an expression and a mark
@@ -63,26 +64,24 @@ impl<F: Fn(Global, &mut Cursor<'_>, usize) -> Result<Expr, Stuck>> Targets<F> {
         &self,
         cursor: &mut Cursor<'_>,
         place: Place,
-        name: Seq<u8>,
+        name: Name,
         part: Part,
-        first: Expr,
+        first: Boxed<Expr>,
     ) -> Result<Expr, Stuck>
         ensures { Reads (spec.part_end self.now.room (spec.target self.now.room) place name first part cursor.old) result cursor.new }
     {
-        let second = plain_expr(self.alloc, cursor, self.room)?;
+        let second = boxed(self.alloc, cursor, self.room)?;
         cursor.expect(b"]")?;
-        let first = Boxed::new(self.alloc, first)?;
-        let second = Boxed::new(self.alloc, second)?;
-        Ok(Expr::Select(place, name, part, first, second))
+        Ok(Expr::Select(part, place, name, first, second))
     }
 
     /// "[" expr [ ( ":" | "+:" | "-:" ) expr ] "]"
     #[tactic(auto, unfolding(crate::specs::Targets::select, crate::specs::Lists::known, crate::specs::Lists::known_by))]
-    fn select(&self, cursor: &mut Cursor<'_>, place: Place, name: Seq<u8>) -> Result<Expr, Stuck>
+    fn select(&self, cursor: &mut Cursor<'_>, place: Place, name: Name) -> Result<Expr, Stuck>
         ensures { Reads (spec.select self.now.room (spec.target self.now.room) place name cursor.old) result cursor.new }
     {
         cursor.expect(b"[")?;
-        let first = plain_expr(self.alloc, cursor, self.room)?;
+        let first = boxed(self.alloc, cursor, self.room)?;
         let Some(by) = part(cursor) else {
             return self.index_end(cursor, place, name, first);
         };
@@ -95,7 +94,7 @@ impl<F: Fn(Global, &mut Cursor<'_>, usize) -> Result<Expr, Stuck>> Targets<F> {
     fn named(&self, cursor: &mut Cursor<'_>, place: Place, name: &[u8]) -> Result<Expr, Stuck>
         ensures { Reads (spec.named self.now.room (spec.target self.now.room) place name.now cursor.old) result cursor.new }
     {
-        let name = Seq::from_vec(name.to_vec(self.alloc)?);
+        let name = Name::from_slice(self.alloc, name)?;
         if !cursor.sees(b"[") {
             return Ok(Expr::Name(place, name));
         }

@@ -3,11 +3,12 @@
 ghost use Rattle.std.specs.Prelude.{◌≡◌, ◌≤◌, length, Ok};
 ghost use Rattle.vlog_expr.specs.Reading.{Reads, first, sees};
 ghost use Rattle.vlog_stmt.specs.Lists as spec;
+ghost use Rattle.vlog_stmt.specs.Targets.{value};
 
-use rdc_outside::Seq;
+use sqlite_items::Boxed;
 use std::alloc::Global;
-use vlog_expr::{Cursor, Stuck};
-use vlog_tree::Ident;
+use vlog_expr::{Cursor, Stuck, plain_expr};
+use vlog_tree::{Expr, Ident, Name};
 
 /// id
 #[tactic(auto, unfolding(crate::specs::Lists::ident, crate::specs::Lists::known, crate::specs::Lists::known_by))]
@@ -19,8 +20,20 @@ pub fn ident(alloc: Global, cursor: &mut Cursor<'_>) -> Result<Ident, Stuck>
         return Err(Stuck::Wrong);
     };
     cursor.advance();
-    let name = Seq::from_vec(name.to_vec(alloc)?);
+    let name = Name::from_slice(alloc, name)?;
     Ok(Ident { place, name })
+}
+
+/// An expression without z digits, no deeper than `room`, in a box.
+pub(crate) fn boxed(
+    alloc: Global,
+    cursor: &mut Cursor<'_>,
+    room: usize,
+) -> Result<Boxed<Expr>, Stuck>
+    ensures { Reads (value room cursor.old) result cursor.new }
+{
+    let expr = plain_expr(alloc, cursor, room)?;
+    Ok(Boxed::new(alloc, expr)?)
 }
 
 /// Past the mark, if it stands in front. Whether it did.

@@ -11,6 +11,8 @@ mod expressions;
 #[cfg(test)]
 mod lexing;
 #[cfg(test)]
+mod names;
+#[cfg(test)]
 mod reading;
 #[cfg(test)]
 mod shown_expr;

@@ -8,7 +8,7 @@ use vlog_lex::lex;
 use vlog_tree::{Binary, Expr, Number, Part, Unary};
 
 // A text of one line, whose columns are counted from 0.
-fn text_of(alloc: Global, bytes: &[u8]) -> Result<Text, AllocError>
+pub(crate) fn text_of(alloc: Global, bytes: &[u8]) -> Result<Text, AllocError>
     ensures { IfOk result (λ t. length t.places ≡ length t.bytes + 1) }
 {
     let mut places = Vec::new(alloc);
@@ -90,7 +90,7 @@ fn number_shown(alloc: Global, n: Number, out: &mut String) -> Result<(), AllocE
     out.push_str(shown.as_str())
 }
 
-fn bytes_shown(bytes: &[u8], out: &mut String) -> Result<(), AllocError> {
+pub(crate) fn bytes_shown(bytes: &[u8], out: &mut String) -> Result<(), AllocError> {
     for b in bytes {
         out.push(char::from(*b))?;
     }
@@ -99,12 +99,17 @@ fn bytes_shown(bytes: &[u8], out: &mut String) -> Result<(), AllocError> {
 
 // A tree in prefix form, down to some depth.
 #[cycle(show)]
-fn show(alloc: Global, e: &Expr, depth: usize, out: &mut String) -> Result<(), AllocError> {
+pub(crate) fn show(
+    alloc: Global,
+    e: &Expr,
+    depth: usize,
+    out: &mut String,
+) -> Result<(), AllocError> {
     if depth == 0 {
         return Ok(());
     }
     match e {
-        Expr::Number(_, n) => number_shown(alloc, *n, out),
+        Expr::Number(_, n) => number_shown(alloc, *n.get(), out),
         Expr::Name(_, name) => bytes_shown(name.as_slice(), out),
         Expr::Index(_, name, i) => {
             out.push_str("([] ")?;
@@ -112,7 +117,7 @@ fn show(alloc: Global, e: &Expr, depth: usize, out: &mut String) -> Result<(), A
             show_next(alloc, i.get(), depth - 1, out)?;
             out.push_str(")")
         }
-        Expr::Select(_, name, part, i, j) => {
+        Expr::Select(part, _, name, i, j) => {
             out.push_str(match part {
                 Part::Fixed => "(: ",
                 Part::Up => "(+: ",

@@ -1,137 +1,19 @@
 //! Statements, controls and stops as texts, for the tests.
 
-ghost use Rattle.std.specs.Prelude.{◌≡◌, ◌+◌, length, IfOk};
-
-use rdc_outside::{Place, Seq, Text};
+use crate::shown_expr::{bytes_shown, show, text_of};
+use rdc_outside::Place;
 use sqlite_items::Boxed;
 use std::alloc::{AllocError, Global};
 use vlog_expr::{Cursor, Stuck};
 use vlog_lex::lex;
 use vlog_stmt::{control_at, loop_header, stmt};
-use vlog_tree::{
-    Arm, Assigns, Binary, Control, Edge, Event, Expr, Loop, Matching, Number, Part, Stmt,
-};
-
-// A text of one line, whose columns are counted from 0.
-fn text_of(alloc: Global, bytes: &[u8]) -> Result<Text, AllocError>
-    ensures { IfOk result (λ t. length t.places ≡ length t.bytes + 1) }
-{
-    let mut places = Vec::new(alloc);
-    for i in 0..bytes.len() {
-        let col = if i < 1000 { i as u32 } else { 1000 };
-        places.push(Place {
-            file: 0,
-            line: 1,
-            col,
-        })?;
-    }
-    places.push(Place {
-        file: 0,
-        line: 2,
-        col: 0,
-    })?;
-    Ok(Text {
-        bytes: Seq::from_vec(Vec::from_slice(alloc, bytes)?),
-        places: Seq::from_vec(places),
-        files: Seq::new(alloc),
-    })
-}
-
-fn bytes_shown(bytes: &[u8], out: &mut String) -> Result<(), AllocError> {
-    for b in bytes {
-        out.push(char::from(*b))?;
-    }
-    Ok(())
-}
+use vlog_tree::{Arm, Assigns, Control, Edge, Event, Expr, Loop, Matching, Stmt};
 
 // Where a statement begins.
 fn column(alloc: Global, place: Place, out: &mut String) -> Result<(), AllocError> {
     let col = place.col;
     let shown = format!(in alloc; "@{col}")?;
     out.push_str(shown.as_str())
-}
-
-// Width, s or u, bits, and the positions of z digits if there are any.
-fn number_shown(alloc: Global, n: Number, out: &mut String) -> Result<(), AllocError> {
-    let width = n.width;
-    let bits = n.bits;
-    let z = n.z;
-    let sign = if n.signed { "s" } else { "u" };
-    let shown = if z == 0 {
-        format!(in alloc; "{width}{sign}{bits}")?
-    } else {
-        format!(in alloc; "{width}{sign}{bits}z{z}")?
-    };
-    out.push_str(shown.as_str())
-}
-
-fn binary_shown(op: Binary) -> &'static str {
-    match op {
-        Binary::Add => "+",
-        Binary::Less => "<",
-        Binary::AtMost => "<=",
-        _ => "another operator",
-    }
-}
-
-fn part_shown(part: Part) -> &'static str {
-    match part {
-        Part::Fixed => "(: ",
-        Part::Up => "(+: ",
-        Part::Down => "(-: ",
-    }
-}
-
-// An expression in prefix form, down to some depth.
-#[cycle(show)]
-fn show(alloc: Global, e: &Expr, depth: usize, out: &mut String) -> Result<(), AllocError> {
-    if depth == 0 {
-        return Ok(());
-    }
-    match e {
-        Expr::Number(_, n) => number_shown(alloc, *n, out),
-        Expr::Name(_, name) => bytes_shown(name.as_slice(), out),
-        Expr::Index(_, name, i) => {
-            out.push_str("([] ")?;
-            bytes_shown(name.as_slice(), out)?;
-            show_next(alloc, i.get(), depth - 1, out)?;
-            out.push_str(")")
-        }
-        Expr::Select(_, name, part, i, j) => {
-            out.push_str(part_shown(*part))?;
-            bytes_shown(name.as_slice(), out)?;
-            show_next(alloc, i.get(), depth - 1, out)?;
-            show_next(alloc, j.get(), depth - 1, out)?;
-            out.push_str(")")
-        }
-        Expr::Concat(_, es) => {
-            out.push_str("({}")?;
-            show_all(alloc, es.as_slice(), depth - 1, out)?;
-            out.push_str(")")
-        }
-        Expr::Binary(_, op, a, b) => {
-            out.push_str("(")?;
-            out.push_str(binary_shown(*op))?;
-            show_next(alloc, a.get(), depth - 1, out)?;
-            show_next(alloc, b.get(), depth - 1, out)?;
-            out.push_str(")")
-        }
-        _ => out.push_str("another expression"),
-    }
-}
-
-#[cycle(show)]
-fn show_next(alloc: Global, e: &Expr, depth: usize, out: &mut String) -> Result<(), AllocError> {
-    out.push_str(" ")?;
-    show(alloc, e, depth, out)
-}
-
-#[cycle(show)]
-fn show_all(alloc: Global, es: &[Expr], depth: usize, out: &mut String) -> Result<(), AllocError> {
-    for e in es {
-        show_next(alloc, e, depth, out)?;
-    }
-    Ok(())
 }
 
 // A blank and an expression.
@@ -143,11 +25,11 @@ fn value(alloc: Global, e: &Expr, out: &mut String) -> Result<(), AllocError> {
 fn head_shown(alloc: Global, head: &Loop, out: &mut String) -> Result<(), AllocError> {
     out.push_str(" ")?;
     bytes_shown(head.variable.name.as_slice(), out)?;
-    value(alloc, &head.start, out)?;
-    value(alloc, &head.test, out)?;
+    value(alloc, head.start.get(), out)?;
+    value(alloc, head.test.get(), out)?;
     out.push_str(" ")?;
     bytes_shown(head.stepped.name.as_slice(), out)?;
-    value(alloc, &head.step, out)
+    value(alloc, head.step.get(), out)
 }
 
 // A statement in prefix form with the column where it begins, down to some depth.
@@ -261,7 +143,7 @@ fn event_shown(alloc: Global, event: &Event, out: &mut String) -> Result<(), All
         None => Ok(()),
         Some(i) => {
             out.push_str(" at")?;
-            value(alloc, i, out)
+            value(alloc, i.get(), out)
         }
     }
 }

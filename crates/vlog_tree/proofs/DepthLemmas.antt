@@ -21,9 +21,9 @@ pub depth-Index : (place : Place) (called : List ℕ) (i : Expr) → depth (Inde
 unfolding depth depth_by_parts
 depth-Index place called i = ap depth (sym (rolls-Index place called i)) ∙ fold-roll-Expr ℕ depth_by_parts (Expr-F.Index place called i)
 
-pub depth-Select : (place : Place) (called : List ℕ) (part : Part) (i j : Expr) → depth (Select place called part i j) ≡ 1 + max (depth i) (depth j)
+pub depth-Select : (place : Place) (called : List ℕ) (part : Part) (i j : Expr) → depth (Select part place called i j) ≡ 1 + max (depth i) (depth j)
 unfolding depth depth_by_parts
-depth-Select place called part i j = ap depth (sym (rolls-Select place called part i j)) ∙ fold-roll-Expr ℕ depth_by_parts (Expr-F.Select place called part i j)
+depth-Select place called part i j = ap depth (sym (rolls-Select part place called i j)) ∙ fold-roll-Expr ℕ depth_by_parts (Expr-F.Select part place called i j)
 
 pub depth-Brackets : (place : Place) (i : Expr) → depth (Brackets place i) ≡ 1 + depth i
 unfolding depth depth_by_parts

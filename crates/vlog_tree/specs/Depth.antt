@@ -45,7 +45,7 @@ unfoldable pub depth_by_parts : Expr-F ℕ → ℕ
 depth_by_parts (Expr-F.Number place n) = 1
 depth_by_parts (Expr-F.Name place called) = 1
 depth_by_parts (Expr-F.Index place called i) = 1 + i
-depth_by_parts (Expr-F.Select place called part i j) = 1 + max i j
+depth_by_parts (Expr-F.Select part place called i j) = 1 + max i j
 depth_by_parts (Expr-F.Brackets place i) = 1 + i
 depth_by_parts (Expr-F.Concat place is) = 1 + deepest is
 depth_by_parts (Expr-F.Repeat place c is) = 1 + max c (deepest is)

@@ -37,7 +37,7 @@ mutual
     select : {level : ℕ} {ls : List Lexeme} {e : Expr} (l left mark right : Lexeme) (called : List ℕ) (part : Part) (is js : List Lexeme) (i j : Expr)
         → name_of l ≡ Some called → IsMark (codes "[") left → Spells level_of_expression is i → part_of (mark_of mark) ≡ Some part
         → Spells level_of_expression js j → IsMark (codes "]") right
-        → ls ≡ l ∷ left ∷ (is ++ mark ∷ (js ++ right ∷ [])) → e ≡ expr.Select (start ls) called part i j → Spells level ls e
+        → ls ≡ l ∷ left ∷ (is ++ mark ∷ (js ++ right ∷ [])) → e ≡ expr.Select part (start ls) called i j → Spells level ls e
     -- "(" expr ")"
     brackets : {level : ℕ} {ls : List Lexeme} {e : Expr} (left right : Lexeme) (is : List Lexeme) (i : Expr)
         → IsMark (codes "(") left → Spells level_of_expression is i → IsMark (codes ")") right
@@ -100,7 +100,7 @@ mutual
     select : {ls : List Lexeme} {e : Expr} (l left mark right : Lexeme) (called : List ℕ) (part : Part) (is js : List Lexeme) (i j : Expr)
         → name_of l ≡ Some called → IsMark (codes "[") left → SpellsPlain is i → part_of (mark_of mark) ≡ Some part
         → SpellsPlain js j → IsMark (codes "]") right
-        → ls ≡ l ∷ left ∷ (is ++ mark ∷ (js ++ right ∷ [])) → e ≡ expr.Select (start ls) called part i j → SpellsTarget ls e
+        → ls ≡ l ∷ left ∷ (is ++ mark ∷ (js ++ right ∷ [])) → e ≡ expr.Select part (start ls) called i j → SpellsTarget ls e
     concat : {ls : List Lexeme} {e : Expr} (left right : Lexeme) (is : List Lexeme) (es : List Expr)
         → IsMark (codes "{") left → SpellsTargets is es → IsMark (codes "}") right
         → ls ≡ left ∷ (is ++ right ∷ []) → e ≡ expr.Concat (start ls) es → SpellsTarget ls e

@@ -11,3 +11,4 @@ pub mod Items
 pub mod Modules
 pub mod Depth
 pub mod Refused
+pub mod Spelling

@@ -1,8 +1,9 @@
 //! Expressions (IEEE 1364-2005, A.8).
 
+use crate::name::Name;
 use crate::number::Number;
 use crate::operator::{Binary, Unary};
-use rdc_outside::{Place, Seq};
+use rdc_outside::Place;
 use sqlite_items::{Boxed, Items};
 
 /// How a part select is written.
@@ -19,12 +20,12 @@ pub enum Part {
 /// An expression as it is written, its brackets with it. The place is that of its first token.
 #[derive(Debug, Drop)]
 pub enum Expr {
-    Number(Place, Number),
-    Name(Place, Seq<u8>),
+    Number(Place, Boxed<Number>),
+    Name(Place, Name),
     /// `name[index]`
-    Index(Place, Seq<u8>, Boxed<Expr>),
+    Index(Place, Name, Boxed<Expr>),
     /// `name[first : second]`, with `+:` or `-:` in the place of `:`
-    Select(Place, Seq<u8>, Part, Boxed<Expr>, Boxed<Expr>),
+    Select(Part, Place, Name, Boxed<Expr>, Boxed<Expr>),
     /// `(inner)`
     Brackets(Place, Boxed<Expr>),
     /// `{member, ..}`

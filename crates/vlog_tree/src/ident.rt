@@ -1,10 +1,11 @@
 //! Names.
 
-use rdc_outside::{Place, Seq};
+use crate::name::Name;
+use rdc_outside::Place;
 
 /// A name where it stands. An escaped name is kept without its backslash, so `\a ` and `a` are one name.
 #[derive(Debug, Drop)]
 pub struct Ident {
     pub place: Place,
-    pub name: Seq<u8>,
+    pub name: Name,
 }

@@ -5,7 +5,7 @@ use crate::ident::Ident;
 use crate::port::{Direction, Shape};
 use crate::stmt::{Arm, Control, Loop, Stmt};
 use rdc_outside::Place;
-use sqlite_items::Items;
+use sqlite_items::{Boxed, Items};
 
 /// A declared wire, with its driver if one is written.
 #[derive(Debug, Drop)]
@@ -72,7 +72,7 @@ pub struct Instance {
 /// What a generate construct holds: one item, none, or those between `begin` and `end`.
 #[derive(Debug, Drop)]
 pub struct Block<I> {
-    pub name: Option<Ident>,
+    pub name: Option<Boxed<Ident>>,
     pub items: I,
 }
 

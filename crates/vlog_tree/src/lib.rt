@@ -9,7 +9,9 @@
 mod expr;
 mod ident;
 mod item;
+mod list;
 mod module;
+mod name;
 mod number;
 mod operator;
 mod port;
@@ -20,7 +22,9 @@ pub use ident::Ident;
 pub use item::{
     Assignment, Binding, Block, Connections, Gate, GateKind, Instance, Item, NamedConnection, Net,
 };
+pub use list::{fitted, sole};
 pub use module::{Module, Parameter};
+pub use name::Name;
 pub use number::{Base, Number};
 pub use operator::{Binary, Unary};
 pub use port::{Direction, Port, Range, Shape};

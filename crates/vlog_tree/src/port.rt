@@ -2,6 +2,7 @@
 
 use crate::expr::Expr;
 use crate::ident::Ident;
+use sqlite_items::Boxed;
 
 /// `[msb : lsb]`
 #[derive(Debug, Drop)]
@@ -14,7 +15,7 @@ pub struct Range {
 #[derive(Debug, Drop)]
 pub struct Shape {
     pub signed: bool,
-    pub range: Option<Range>,
+    pub range: Option<Boxed<Range>>,
 }
 
 /// What a port is declared as. `wire` behind `input` or `output` says nothing further.

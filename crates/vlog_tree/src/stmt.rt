@@ -31,10 +31,10 @@ pub struct Arm<B> {
 #[derive(Debug, Drop)]
 pub struct Loop {
     pub variable: Ident,
-    pub start: Expr,
-    pub test: Expr,
+    pub start: Boxed<Expr>,
+    pub test: Boxed<Expr>,
     pub stepped: Ident,
-    pub step: Expr,
+    pub step: Boxed<Expr>,
 }
 
 /// A statement. The place is that of its first token.
@@ -64,7 +64,7 @@ pub enum Edge {
 pub struct Event {
     pub edge: Edge,
     pub name: Ident,
-    pub index: Option<Expr>,
+    pub index: Option<Boxed<Expr>>,
 }
 
 /// What a process waits for.

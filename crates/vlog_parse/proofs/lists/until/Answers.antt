@@ -45,4 +45,5 @@ returns g c =
     kept.2 ∙ (ap (λ n. behind c.pieces.found (until_from n w reader c.pieces.cursor)) (sym turn)
     ∙ (until_end w reader (kept.0 - 1) c.pieces.found c.pieces.cursor seen
     ∙ (ap (λ found. (Ok found, drop 1 c.pieces.cursor)) (append-nil c.pieces.found)
-    ∙ ap (λ ls. (Ok c.pieces.found, ls)) (sym c.advance.ensures))))
+    ∙ (ap (λ ls. (Ok c.pieces.found, ls)) (sym c.advance.ensures)
+    ∙ ap (λ found. (Ok found, c.advance.new.self)) (sym c.in_ok-fitted.ensures)))))

@@ -46,4 +46,5 @@ returns g c =
     kept.2 ∙ (ap (λ n. behind c.arms.found (arms_from room (item room) n c.arms.may c.arms.cursor)) (sym turn)
     ∙ (arms_end room (item room) (kept.0 - 1) c.arms.may c.arms.found c.arms.cursor seen
     ∙ (ap (λ found. (Ok found, drop 1 c.arms.cursor)) (append-nil c.arms.found)
-    ∙ ap (λ ls. (Ok c.arms.found, ls)) (sym c.advance.ensures))))
+    ∙ (ap (λ ls. (Ok c.arms.found, ls)) (sym c.advance.ensures)
+    ∙ ap (λ found. (Ok found, c.advance.new.self)) (sym c.in_ok-fitted.ensures)))))

@@ -1,6 +1,0 @@
--- There are as many places as bytes were passed.
-use Rattle.std.proofs.Common.{◌≡◌, vec_len}
-use Rattle.vlog_tests.proofs.shown_stmt.text_of.Given as goal
-
-abbrev pub invariant-loop-i : goal.invariant-loop-i
-invariant-loop-i l = vec_len l.places ≡ l.i
