@@ -4,16 +4,17 @@ use Rattle.std.proofs.Math.Seq.{drop-cons}
 use Rattle.std.proofs.lemmas.List.{drop_all}
 use Rattle.rdc_outside.specs.declared.source.Place.{Place}
 use Rattle.vlog_tree.specs.declared.expr.Expr.{Expr}
-use Rattle.vlog_tree.specs.declared.expr.Expr.TheVariants.{Unary as Op, Binary as Between}
+use Rattle.vlog_tree.specs.declared.expr.Expr.TheVariants.{Select, Unary as Op, Binary as Between}
+use Rattle.vlog_tree.specs.declared.expr.Part.{Part}
 use Rattle.vlog_tree.specs.declared.operator.Unary.{Unary}
 use Rattle.vlog_tree.specs.declared.operator.Binary.{Binary}
 use Rattle.rdc_tern.specs.declared.value.Tern.{Tern}
 use Rattle.vlog_const.specs.declared.shape.Shape.{Shape}
 use Rattle.vlog_const.specs.declared.shape.Family.{Family}
-use Rattle.vlog_const.specs.Widths.{operand_family, family_of, shape_in, unary_shape, binary_shape}
+use Rattle.vlog_const.specs.Widths.{unsigned, family_of, shape_in, unary_shape, binary_shape}
 use Rattle.design_form.specs.Selects.{Seen}
-use Rattle.design_form.specs.Values.{Valued, valued, joined_width, unary_valued, binary_valued}
-use Rattle.design_form.proofs.ValueLemmas.{valued-Unary, valued-Binary}
+use Rattle.design_form.specs.Values.{Valued, valued, joined_width, select_width, select_valued, unary_valued, binary_valued}
+use Rattle.design_form.proofs.ValueLemmas.{valued-Select, valued-Unary, valued-Binary}
 
 -- the shape of an expression that is of a form
 pub shape-by : (names : List ℕ → Seen) (e f : Expr) (v : Valued) (s : Shape) → e ≡ f → valued names f ≡ v → s ≡ v.shape → s ≡ (valued names e).shape
@@ -25,11 +26,15 @@ word-by names e f v c w is form h = h ∙ ap (λ (x : Valued). x.word c) (sym fo
 
 -- ---- shapes
 
-pub unary-shape : (names : List ℕ → Seen) (e inner x : Expr) (place : Place) (op : Unary) (f : Family) (a r : Shape) → e ≡ Op place op inner → x ≡ inner → f ≡ operand_family op → a ≡ (valued names x).shape → r ≡ shape_in f a a → r ≡ (valued names e).shape
-unfolding unary_shape
-unary-shape names e inner x place op f a r is same family shape result =
-    shape-by names e (Op place op inner) (unary_valued op (valued names inner)) r is (valued-Unary names place op inner)
-    (result ∙ ap (λ (g : Family). shape_in g a a) family ∙ ap (λ (s : Shape). shape_in (operand_family op) s s) (shape ∙ ap (λ (z : Expr). (valued names z).shape) same))
+pub select-shape : (names : List ℕ → Seen) (e i j x y : Expr) (place : Place) (name n : List ℕ) (how : Part)
+    → e ≡ Select how place name i j → x ≡ i → y ≡ j → n ≡ name → unsigned (select_width (names n) how x y) ≡ (valued names e).shape
+select-shape names e i j x y place name n how is one other called =
+    shape-by names e (Select how place name i j) (select_valued (names name) how i (valued names i) j) _ is (valued-Select names place name how i j)
+    (ap (λ (m : List ℕ). unsigned (select_width (names m) how x y)) called ∙ ap (λ (z : Expr). unsigned (select_width (names name) how z y)) one ∙ ap (λ (z : Expr). unsigned (select_width (names name) how i z)) other)
+
+pub unary-form-shape : (names : List ℕ → Seen) (e inner x : Expr) (place : Place) (op : Unary) → e ≡ Op place op inner → x ≡ inner → unary_shape op (valued names x).shape ≡ (valued names e).shape
+unary-form-shape names e inner x place op is same =
+    shape-by names e (Op place op inner) (unary_valued op (valued names inner)) _ is (valued-Unary names place op inner) (ap (λ (z : Expr). unary_shape op (valued names z).shape) same)
 
 pub binary-shape : (names : List ℕ → Seen) (e left right x y : Expr) (place : Place) (op : Binary) (f : Family) (a b r : Shape)
     → e ≡ Between place op left right → x ≡ left → y ≡ right → f ≡ family_of op → a ≡ (valued names x).shape → b ≡ (valued names y).shape → r ≡ shape_in f a b → r ≡ (valued names e).shape

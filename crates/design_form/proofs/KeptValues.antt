@@ -156,7 +156,7 @@ module _ (R : Tern → Tern → Type 0) (k : IsKept R) where
     by_parts (Expr-F.Number place n) = by_form _ _ _ _ (rolls-Number place n) (valued-Number names place n) (valued-Number names' place n) (fixed_kept _ _ _ _ refl (bits_kept R k n.width n.bits))
     by_parts (Expr-F.Name place name) = by_form _ _ _ _ (rolls-Name place name) (valued-Name names place name) (valued-Name names' place name) (named_kept _ _ (seen name))
     by_parts (Expr-F.Index place name i) = by_form _ _ _ _ (rolls-Index place name i.0) (valued-Index names place name i.0) (valued-Index names' place name i.0) (index_kept _ _ _ _ (seen name) i.1)
-    by_parts (Expr-F.Select place name how i j) = by_form _ _ _ _ (rolls-Select place name how i.0 j.0) (valued-Select names place name how i.0 j.0) (valued-Select names' place name how i.0 j.0) (select_valued_kept _ _ how i.0 j.0 _ _ (seen name) i.1)
+    by_parts (Expr-F.Select how place name i j) = by_form _ _ _ _ (rolls-Select how place name i.0 j.0) (valued-Select names place name how i.0 j.0) (valued-Select names' place name how i.0 j.0) (select_valued_kept _ _ how i.0 j.0 _ _ (seen name) i.1)
     by_parts (Expr-F.Brackets place a) = by_form _ _ _ _ (rolls-Brackets place a.0) (valued-Brackets names place a.0) (valued-Brackets names' place a.0) a.1
     by_parts (Expr-F.Concat place es) = by_form _ _ _ _ (rolls-Concat place (map (λ p. p.0) es)) (valued-Concat names place (map (λ p. p.0) es)) (valued-Concat names' place (map (λ p. p.0) es)) (concat_kept _ _ (members_kept es))
     by_parts (Expr-F.Repeat place n es) = by_form _ _ _ _ (rolls-Repeat place n.0 (map (λ p. p.0) es)) (valued-Repeat names place n.0 (map (λ p. p.0) es)) (valued-Repeat names' place n.0 (map (λ p. p.0) es)) (repeat_kept (count_alone n.0) _ _ (members_kept es))

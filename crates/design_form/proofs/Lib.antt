@@ -12,3 +12,12 @@ pub mod NumberLemmas
 pub mod KeptWords
 pub mod KeptValues
 pub mod StateLaws
+pub mod SettledWords
+pub mod GateNumbers
+pub mod TestNumbers
+pub mod ShiftNumbers
+pub mod WorthForms
+pub mod WrittenForms
+pub mod WorthWords
+pub mod ConstantValues
+pub mod SeenLemmas

@@ -12,7 +12,7 @@ use Rattle.design_form.specs.Bits.{bits}
 use Rattle.design_form.specs.Selects.{Seen}
 use Rattle.design_form.specs.Values.{Valued, valued, valued_by_parts, fixed, named, index_valued, select_valued, concat_valued, repeat_valued, count_alone, unary_valued, binary_valued, choice_valued}
 
-firsts : {A B : Type 0} (f : A → B) (xs : List A) → map (λ p. p.1) (map (λ x. let q : A × B = (x, f x) in q) xs) ≡ map f xs
+pub firsts : {A B : Type 0} (f : A → B) (xs : List A) → map (λ p. p.1) (map (λ x. let q : A × B = (x, f x) in q) xs) ≡ map f xs
 firsts f [] = refl
 firsts {A} {B} f (x ∷ xs) = ap (λ (ys : List B). f x ∷ ys) (firsts f xs)
 
@@ -28,9 +28,9 @@ pub valued-Index : (names : List ℕ → Seen) (place : Place) (name : List ℕ)
 unfolding valued valued_by_parts
 valued-Index names place name i = ap (valued names) (sym (rolls-Index place name i)) ∙ para-roll-Expr Valued (valued_by_parts names) (Expr-F.Index place name i)
 
-pub valued-Select : (names : List ℕ → Seen) (place : Place) (name : List ℕ) (how : Part) (i j : Expr) → valued names (Select place name how i j) ≡ select_valued (names name) how i (valued names i) j
+pub valued-Select : (names : List ℕ → Seen) (place : Place) (name : List ℕ) (how : Part) (i j : Expr) → valued names (Select how place name i j) ≡ select_valued (names name) how i (valued names i) j
 unfolding valued valued_by_parts
-valued-Select names place name how i j = ap (valued names) (sym (rolls-Select place name how i j)) ∙ para-roll-Expr Valued (valued_by_parts names) (Expr-F.Select place name how i j)
+valued-Select names place name how i j = ap (valued names) (sym (rolls-Select how place name i j)) ∙ para-roll-Expr Valued (valued_by_parts names) (Expr-F.Select how place name i j)
 
 pub valued-Brackets : (names : List ℕ → Seen) (place : Place) (a : Expr) → valued names (Brackets place a) ≡ valued names a
 unfolding valued valued_by_parts

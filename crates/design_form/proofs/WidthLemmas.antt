@@ -114,7 +114,7 @@ by_parts : (names : List ℕ → Seen) (y : Expr-F ((e : Expr) × HasWidth names
 by_parts names (Expr-F.Number place n) c = ap (λ e. length ((valued names e).word c)) (rolls-Number place n) ∙ ap (λ v. length (v.word c)) (valued-Number names place n) ∙ length-extended c _
 by_parts names (Expr-F.Name place name) c = ap (λ e. length ((valued names e).word c)) (rolls-Name place name) ∙ ap (λ v. length (v.word c)) (valued-Name names place name) ∙ length-extended c _
 by_parts names (Expr-F.Index place name i) c = ap (λ e. length ((valued names e).word c)) (rolls-Index place name i.0) ∙ ap (λ v. length (v.word c)) (valued-Index names place name i.0) ∙ length-extended c _
-by_parts names (Expr-F.Select place name how i j) c = ap (λ e. length ((valued names e).word c)) (rolls-Select place name how i.0 j.0) ∙ ap (λ v. length (v.word c)) (valued-Select names place name how i.0 j.0) ∙ length-extended c _
+by_parts names (Expr-F.Select how place name i j) c = ap (λ e. length ((valued names e).word c)) (rolls-Select how place name i.0 j.0) ∙ ap (λ v. length (v.word c)) (valued-Select names place name how i.0 j.0) ∙ length-extended c _
 by_parts names (Expr-F.Brackets place a) c = ap (λ e. length ((valued names e).word c)) (rolls-Brackets place a.0) ∙ ap (λ v. length (v.word c)) (valued-Brackets names place a.0) ∙ a.1 c
 by_parts names (Expr-F.Concat place es) c = ap (λ e. length ((valued names e).word c)) (rolls-Concat place (map (λ p. p.0) es)) ∙ ap (λ v. length (v.word c)) (valued-Concat names place (map (λ p. p.0) es)) ∙ length-extended c _
 by_parts names (Expr-F.Repeat place n es) c = ap (λ e. length ((valued names e).word c)) (rolls-Repeat place n.0 (map (λ p. p.0) es)) ∙ ap (λ v. length (v.word c)) (valued-Repeat names place n.0 (map (λ p. p.0) es)) ∙ length-extended c _

@@ -21,36 +21,33 @@ use Rattle.design_form.specs.Extents.{AreAlike}
 use Rattle.design_form.specs.Bits.{extended, copies}
 use Rattle.design_form.specs.Gates.{before, between}
 use Rattle.design_form.specs.Selects.{Seen, picked}
-use Rattle.design_form.specs.Values.{Valued, valued, word_alone, joined, constant_bits, count_alone, is_computed, select_word, binary_word, index_valued, select_valued, concat_valued, repeat_valued, unary_valued, binary_valued, choice_valued}
+use Rattle.design_form.specs.Values.{Valued, valued, word_alone, joined, constant_bits, count_alone, is_computed, select_word, binary_word, gates_word, index_valued, select_valued, concat_valued, repeat_valued, unary_valued, binary_valued, choice_valued}
 use Rattle.design_form.proofs.ValueLemmas.{valued-Index, valued-Select, valued-Concat, valued-Repeat, valued-Unary, valued-Binary, valued-Conditional}
 use Rattle.design_form.proofs.FormLemmas.{word-by}
 use Rattle.design_form.proofs.WidthLemmas.{length-word_in, alike}
 
 -- ---- selects, and members side by side
 
-pub index-word : (names : List ℕ → Seen) (e at x : Expr) (place : Place) (name n : List ℕ) (v : Seen) (c : Shape) (w : List Tern)
-    → e ≡ Index place name at → x ≡ at → n ≡ name → v ≡ names n → w ≡ picked Down v 1 (valued names x).shape (word_alone (valued names x)) → extended c w ≡ (valued names e).word c
-index-word names e at x place name n v c w is same called view bits =
-    word-by names e (Index place name at) (index_valued (names name) (valued names at)) c (extended c w) is (valued-Index names place name at)
-    (ap (extended c) (bits ∙ ap (λ (u : Seen). picked Down u 1 (valued names x).shape (word_alone (valued names x))) (view ∙ ap names called) ∙ ap (λ (z : Expr). picked Down (names name) 1 (valued names z).shape (word_alone (valued names z))) same))
+pub index-form : (names : List ℕ → Seen) (e at x : Expr) (place : Place) (name n : List ℕ) (c : Shape) → e ≡ Index place name at → x ≡ at → n ≡ name → (index_valued (names n) (valued names x)).word c ≡ (valued names e).word c
+index-form names e at x place name n c is same called =
+    word-by names e (Index place name at) (index_valued (names name) (valued names at)) c _ is (valued-Index names place name at)
+    (ap (λ (m : List ℕ). (index_valued (names m) (valued names x)).word c) called ∙ ap (λ (z : Expr). (index_valued (names name) (valued names z)).word c) same)
 
-pub select-word : (names : List ℕ → Seen) (e i j x y : Expr) (place : Place) (name n : List ℕ) (how : Part) (v : Seen) (c : Shape) (w : List Tern)
-    → e ≡ Select place name how i j → x ≡ i → y ≡ j → n ≡ name → v ≡ names n → w ≡ select_word v how x (valued names x) y → extended c w ≡ (valued names e).word c
-select-word names e i j x y place name n how v c w is one other called view bits =
-    word-by names e (Select place name how i j) (select_valued (names name) how i (valued names i) j) c (extended c w) is (valued-Select names place name how i j)
-    (ap (extended c) (bits ∙ ap (λ (u : Seen). select_word u how x (valued names x) y) (view ∙ ap names called) ∙ ap (λ (z : Expr). select_word (names name) how z (valued names z) y) one ∙ ap (λ (z : Expr). select_word (names name) how i (valued names i) z) other))
+pub select-form : (names : List ℕ → Seen) (e i j x y : Expr) (place : Place) (name n : List ℕ) (how : Part) (c : Shape)
+    → e ≡ Select how place name i j → x ≡ i → y ≡ j → n ≡ name → (select_valued (names n) how x (valued names x) y).word c ≡ (valued names e).word c
+select-form names e i j x y place name n how c is one other called =
+    word-by names e (Select how place name i j) (select_valued (names name) how i (valued names i) j) c _ is (valued-Select names place name how i j)
+    (ap (λ (m : List ℕ). (select_valued (names m) how x (valued names x) y).word c) called ∙ ap (λ (z : Expr). (select_valued (names name) how z (valued names z) y).word c) one ∙ ap (λ (z : Expr). (select_valued (names name) how i (valued names i) z).word c) other)
 
-pub concat-word : (names : List ℕ → Seen) (e : Expr) (es xs : List Expr) (place : Place) (c : Shape) (w : List Tern)
-    → e ≡ Concat place es → xs ≡ es → w ≡ joined (map (valued names) xs) → extended c w ≡ (valued names e).word c
-concat-word names e es xs place c w is same bits =
-    word-by names e (Concat place es) (concat_valued (map (valued names) es)) c (extended c w) is (valued-Concat names place es)
-    (ap (extended c) (bits ∙ ap (λ (ys : List Expr). joined (map (valued names) ys)) same))
+pub concat-form : (names : List ℕ → Seen) (e : Expr) (es xs : List Expr) (place : Place) (c : Shape) → e ≡ Concat place es → xs ≡ es → (concat_valued (map (valued names) xs)).word c ≡ (valued names e).word c
+concat-form names e es xs place c is same =
+    word-by names e (Concat place es) (concat_valued (map (valued names) es)) c _ is (valued-Concat names place es) (ap (λ (ys : List Expr). (concat_valued (map (valued names) ys)).word c) same)
 
-pub repeat-word : (names : List ℕ → Seen) (e n k : Expr) (es xs : List Expr) (place : Place) (c : Shape) (number : ℕ) (w r : List Tern)
-    → e ≡ Repeat place n es → k ≡ n → xs ≡ es → number ≡ count_alone k → w ≡ joined (map (valued names) xs) → r ≡ copies number w → extended c r ≡ (valued names e).word c
-repeat-word names e n k es xs place c number w r is one same counted bits result =
-    word-by names e (Repeat place n es) (repeat_valued (count_alone n) (map (valued names) es)) c (extended c r) is (valued-Repeat names place n es)
-    (ap (extended c) (result ∙ ap (λ (m : ℕ). copies m w) (counted ∙ ap count_alone one) ∙ ap (copies (count_alone n)) (bits ∙ ap (λ (ys : List Expr). joined (map (valued names) ys)) same)))
+pub repeat-form : (names : List ℕ → Seen) (e n k : Expr) (es xs : List Expr) (place : Place) (c : Shape)
+    → e ≡ Repeat place n es → k ≡ n → xs ≡ es → (repeat_valued (count_alone k) (map (valued names) xs)).word c ≡ (valued names e).word c
+repeat-form names e n k es xs place c is one same =
+    word-by names e (Repeat place n es) (repeat_valued (count_alone n) (map (valued names) es)) c _ is (valued-Repeat names place n es)
+    (ap (λ (z : Expr). (repeat_valued (count_alone z) (map (valued names) xs)).word c) one ∙ ap (λ (ys : List Expr). (repeat_valued (count_alone n) (map (valued names) ys)).word c) same)
 
 -- what holds of every answer holds of one
 pub of-one : {A E : Type 0} (r : Result A E) (f : A → List Tern) (g : Valued → List Tern) (a : Valued) → IfOk r (λ w. (b : Valued) → f w ≡ g b) → IfOk r (λ w. f w ≡ g a)
@@ -63,14 +60,9 @@ of-one (Err fault) f g a h = h
 handed : (names : List ℕ → Seen) (inner x : Expr) (l c : Shape) (w : List Tern) → x ≡ inner → w ≡ (valued names x).word l → l ≡ c → w ≡ (valued names inner).word c
 handed names inner x l c w same operand context = operand ∙ ap (λ (z : Expr). (valued names z).word l) same ∙ ap (valued names inner).word context
 
-pub unary-word : (names : List ℕ → Seen) (e inner x : Expr) (place : Place) (op : Unary) (f : Family) (a l c : Shape) (w r : List Tern)
-    → e ≡ Op place op inner → x ≡ inner → f ≡ operand_family op → a ≡ (valued names x).shape → l ≡ left_in f a a c → w ≡ (valued names x).word l → r ≡ before op c w → r ≡ (valued names e).word c
-unfolding unary_context
-unary-word names e inner x place op f a l c w r is same family shape context operand result =
-    let mine : a ≡ (valued names inner).shape = shape ∙ ap (λ (z : Expr). (valued names z).shape) same in
-    let into : l ≡ left_in (operand_family op) (valued names inner).shape (valued names inner).shape c =
-    context ∙ ap (λ (g : Family). left_in g a a c) family ∙ ap (λ (s : Shape). left_in (operand_family op) s s c) mine in
-    word-by names e (Op place op inner) (unary_valued op (valued names inner)) c r is (valued-Unary names place op inner) (result ∙ ap (before op c) (handed names inner x l _ w same operand into))
+pub unary-form : (names : List ℕ → Seen) (e inner x : Expr) (place : Place) (op : Unary) (c : Shape) → e ≡ Op place op inner → x ≡ inner → (unary_valued op (valued names x)).word c ≡ (valued names e).word c
+unary-form names e inner x place op c is same =
+    word-by names e (Op place op inner) (unary_valued op (valued names inner)) c _ is (valued-Unary names place op inner) (ap (λ (z : Expr). (unary_valued op (valued names z)).word c) same)
 
 -- a choice that is decided
 decided : (b : Bool) (x y : List Tern) → b ≡ false → (if b then x else y) ≡ y
@@ -88,22 +80,17 @@ computed-word names e left right place op c r is computed result =
     word-by names e (Between place op left right) (binary_valued (Between place op left right) op (valued names left) (valued names right)) c r is (valued-Binary names place op left right)
     (result ∙ ap (λ (z : Expr). constant_bits c.width (value_in no_values c z)) is ∙ sym (decided_true (is_computed op) _ _ computed))
 
-pub binary-word : (names : List ℕ → Seen) (e left right x y : Expr) (place : Place) (op : Binary) (f : Family) (a b both l m c : Shape) (w v r : List Tern)
-    → e ≡ Between place op left right → is_computed op ≡ false → x ≡ left → y ≡ right → f ≡ family_of op → a ≡ (valued names x).shape → b ≡ (valued names y).shape
-    → l ≡ left_in f a b c → m ≡ right_in f a b c → both ≡ common a b → w ≡ (valued names x).word l → v ≡ (valued names y).word m → r ≡ between op both.signed c w v → r ≡ (valued names e).word c
-unfolding binary_word left_context right_context
-binary-word names e left right x y place op f a b both l m c w v r is gates one other family first second at-left at-right all operand further result =
-    let a-is : a ≡ (valued names left).shape = first ∙ ap (λ (z : Expr). (valued names z).shape) one in
-    let b-is : b ≡ (valued names right).shape = second ∙ ap (λ (z : Expr). (valued names z).shape) other in
-    let l-is : l ≡ left_in (family_of op) (valued names left).shape (valued names right).shape c =
-    at-left ∙ ap (λ (g : Family). left_in g a b c) family ∙ ap (λ (s : Shape). left_in (family_of op) s b c) a-is ∙ ap (λ (s : Shape). left_in (family_of op) (valued names left).shape s c) b-is in
-    let m-is : m ≡ right_in (family_of op) (valued names left).shape (valued names right).shape c =
-    at-right ∙ ap (λ (g : Family). right_in g a b c) family ∙ ap (λ (s : Shape). right_in (family_of op) s b c) a-is ∙ ap (λ (s : Shape). right_in (family_of op) (valued names left).shape s c) b-is in
-    let both-is : both ≡ common (valued names left).shape (valued names right).shape = all ∙ ap (λ (s : Shape). common s b) a-is ∙ ap (common (valued names left).shape) b-is in
+pub binary-word : (names : List ℕ → Seen) (e left right x y : Expr) (place : Place) (op : Binary) (signed : Bool) (l m c : Shape) (w v r : List Tern)
+    → e ≡ Between place op left right → is_computed op ≡ false → x ≡ left → y ≡ right
+    → l ≡ left_context op (valued names x).shape (valued names y).shape c → m ≡ right_context op (valued names x).shape (valued names y).shape c → ((k : Shape) (a b : List Tern) → between op signed k a b ≡ between op (common (valued names x).shape (valued names y).shape).signed k a b)
+    → w ≡ (valued names x).word l → v ≡ (valued names y).word m → r ≡ between op signed c w v → r ≡ (valued names e).word c
+unfolding binary_word
+binary-word names e left right x y place op signed l m c w v r is gates one other at-left at-right both operand further result =
     word-by names e (Between place op left right) (binary_valued (Between place op left right) op (valued names left) (valued names right)) c r is (valued-Binary names place op left right)
-    (result ∙ ap (λ (s : Shape). between op s.signed c w v) both-is
-    ∙ ap (λ (z : List Tern). between op (common (valued names left).shape (valued names right).shape).signed c z v) (handed names left x l _ w one operand l-is)
-    ∙ ap (between op (common (valued names left).shape (valued names right).shape).signed c _) (handed names right y m _ v other further m-is)
+    (result ∙ both c w v
+    ∙ ap (λ (z : List Tern). between op (common (valued names x).shape (valued names y).shape).signed c z v) (operand ∙ ap (valued names x).word at-left)
+    ∙ ap (between op (common (valued names x).shape (valued names y).shape).signed c _) (further ∙ ap (valued names y).word at-right)
+    ∙ ap (λ (z : Expr). gates_word op (valued names z) (valued names y) c) one ∙ ap (λ (z : Expr). gates_word op (valued names left) (valued names z) c) other
     ∙ sym (decided (is_computed op) _ _ gates))
 
 pub choice-word : (names : List ℕ → Seen) (e test left right z x y : Expr) (place : Place) (c : Shape) (t : Tern) (s w v r : List Tern)
@@ -132,10 +119,11 @@ none f xs so_far h = h ∙ ap (λ (ys : List Expr). joined (map f ys)) (sym (dro
 pub width-of : (names : List ℕ → Seen) (x : Expr) (l : Shape) (w : List Tern) → w ≡ (valued names x).word l → length w ≡ l.width
 width-of names x l w h = ap length h ∙ length-word_in names x l
 
-pub alike-words : (names : List ℕ → Seen) (x y : Expr) (op : Binary) (f : Family) (a b l m c : Shape) (w v : List Tern)
-    → f ≡ family_of op → l ≡ left_in f a b c → m ≡ right_in f a b c → w ≡ (valued names x).word l → v ≡ (valued names y).word m → AreAlike (family_of op) w v
-alike-words names x y op f a b l m c w v family at-left at-right operand further =
-    subst (λ (g : Family). AreAlike g w v) family (alike f a b c w v (width-of names x l w operand ∙ ap (λ (s : Shape). s.width) at-left) (width-of names y m v further ∙ ap (λ (s : Shape). s.width) at-right))
+pub alike-words : (names : List ℕ → Seen) (x y : Expr) (op : Binary) (a b l m c : Shape) (w v : List Tern)
+    → l ≡ left_context op a b c → m ≡ right_context op a b c → w ≡ (valued names x).word l → v ≡ (valued names y).word m → AreAlike (family_of op) w v
+unfolding left_context right_context
+alike-words names x y op a b l m c w v at-left at-right operand further =
+    alike (family_of op) a b c w v (width-of names x l w operand ∙ ap (λ (s : Shape). s.width) at-left) (width-of names y m v further ∙ ap (λ (s : Shape). s.width) at-right)
 
 pub equal-words : (names : List ℕ → Seen) (x y : Expr) (c : Shape) (w v : List Tern) → w ≡ (valued names x).word c → v ≡ (valued names y).word c → length w ≡ length v
 equal-words names x y c w v h k = width-of names x c w h ∙ sym (width-of names y c v k)

@@ -6,9 +6,11 @@
 --     copies n w                     n copies, side by side
 --     fits n w                       a number of no more than w bits
 --     start_word, can_be             the number at which a select starts as an index, and whether an index can be it
+--     start_bit, start_rest          its lowest bit, and what stands above it
 use Rattle.std.specs.Prelude.{ℕ, zero, suc, ◌-◌, ◌/◌, ◌%◌, ◌^◌, Bool, ◌&&◌, ◌==◌, nat_lt, if◌then◌else◌, List, [], ◌∷◌, ◌++◌, length, take, replicate, slice_index_or}
 use Rattle.rdc_tern.specs.declared.value.Tern.{Tern}
 use Rattle.rdc_tern.specs.declared.value.Tern.TheVariants.{Zero, One}
+use Rattle.rdc_tern.specs.Kleene.{not_of}
 use Rattle.rdc_tern.specs.Words.{inverted}
 use Rattle.vlog_const.specs.declared.shape.Shape.{Shape}
 use Rattle.design_form.specs.declared.start.Start.{Start}
@@ -50,6 +52,15 @@ fits n w = nat_lt n (2 ^ w)
 unfoldable pub start_word : ℕ → Start → List Tern
 start_word w (From n) = bits w n
 start_word w (Below n) = inverted (bits w n)
+
+-- the lowest bit of a start as a word, and the start whose word stands above it
+unfoldable pub start_bit : Start → Tern
+start_bit (From n) = low_bit n
+start_bit (Below n) = not_of (low_bit n)
+
+unfoldable pub start_rest : Start → Start
+start_rest (From n) = From (n / 2)
+start_rest (Below n) = Below (n / 2)
 
 -- whether an index of that shape can be the start
 unfoldable pub can_be : Shape → Start → Bool

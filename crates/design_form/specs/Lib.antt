@@ -8,3 +8,4 @@ pub mod Values
 pub mod State
 pub mod Extents
 pub mod ValueLaws
+pub mod ConstantLaws

@@ -1,13 +1,15 @@
 -- What the tables of a design hold.
 --     numbers_at t           what a table of names has at each name
 --     number_at t name       the same, or 0
---     AreTables p ..         the tables are those of the parts
+--     AreTables ss ..        what names and numbers have to be
+--     AreTablesOf ss t       the tables are those of the signals
 use Rattle.std.specs.Prelude.{◌≡◌, ℕ, ◌<◌, ◌^◌, List, map, length, Option}
 use Rattle.std.specs.Option.{unwrap_or}
 use Rattle.std.specs.Str.{bytes_eq}
 use Rattle.std.specs.HashMap as hash
 use Rattle.design_form.specs.declared.name_table.NameTable.{NameTable}
 use Rattle.design_form.specs.declared.signal.Signal.{Signal}
+use Rattle.design_form.specs.declared.tables.Tables.{Tables}
 use Rattle.design_form.specs.Numbers.{printed, bits_of, index_of, numbers_of}
 
 -- what a table of names has at each name
@@ -25,3 +27,6 @@ pub record AreTables (signals : List Signal) (names : List (List ℕ)) (bits : L
   pub bits_are : bits ≡ index_of (bits_of signals)
   pub places_are : places ≡ index_of (map (λ s. s.name) signals)
   pub numbers_are : numbers ≡ map (numbers_of signals) signals
+
+abbrev pub AreTablesOf : List Signal → Tables → Type 0
+AreTablesOf signals t = AreTables signals (map (λ n. n.items) t.names.items) (numbers_at t.bits) (numbers_at t.places) (map (λ n. n.items) t.numbers.items)

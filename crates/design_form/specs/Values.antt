@@ -105,11 +105,13 @@ repeat_valued n members = fixed (repeated_shape n (unsigned (joined_width member
 abbrev pub unary_valued : Unary → Valued → Valued
 unary_valued op a = record { shape = unary_shape op a.shape; word = λ c. before op c (a.word (unary_context op a.shape c)) }
 
+-- an operator between its operands, as its gates
+abbrev pub gates_word : Binary → Valued → Valued → Shape → List Tern
+gates_word op a b c = between op (common a.shape b.shape).signed c (a.word (left_context op a.shape b.shape c)) (b.word (right_context op a.shape b.shape c))
+
 -- an operator between its operands; the whole expression is e
 unfoldable pub binary_word : Expr → Binary → Valued → Valued → Shape → List Tern
-binary_word e op a b c =
-    if is_computed op then constant_bits c.width (value_in no_values c e)
-    else between op (common a.shape b.shape).signed c (a.word (left_context op a.shape b.shape c)) (b.word (right_context op a.shape b.shape c))
+binary_word e op a b c = if is_computed op then constant_bits c.width (value_in no_values c e) else gates_word op a b c
 
 abbrev pub binary_valued : Expr → Binary → Valued → Valued → Valued
 binary_valued e op a b = record { shape = binary_shape op a.shape b.shape; word = binary_word e op a b }
@@ -125,7 +127,7 @@ unfoldable pub valued_by_parts : (List ℕ → Seen) → Expr-F (Expr × Valued)
 valued_by_parts names (Expr-F.Number place n) = fixed (record { width = n.width; signed = n.signed }) (bits n.width n.bits)
 valued_by_parts names (Expr-F.Name place name) = named (names name)
 valued_by_parts names (Expr-F.Index place name i) = index_valued (names name) i.1
-valued_by_parts names (Expr-F.Select place name how i j) = select_valued (names name) how i.0 i.1 j.0
+valued_by_parts names (Expr-F.Select how place name i j) = select_valued (names name) how i.0 i.1 j.0
 valued_by_parts names (Expr-F.Brackets place a) = a.1
 valued_by_parts names (Expr-F.Concat place members) = concat_valued (map (λ a. a.1) members)
 valued_by_parts names (Expr-F.Repeat place n members) = repeat_valued (count_alone n.0) (map (λ a. a.1) members)

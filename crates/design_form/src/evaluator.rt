@@ -1,26 +1,24 @@
 //! What an expression is worth in a state.
 ghost use Rattle.std.specs.Prelude.{◌≡◌, map, IfOk};
 ghost use Rattle.design_form.specs.Extents.{shape_of, view_of};
-ghost use Rattle.design_form.specs.Selects.{picked};
-ghost use Rattle.design_form.specs.Values.{Valued, joined, select_word, valued, word_in, word_of, word_within};
+ghost use Rattle.design_form.specs.Values.{Valued, concat_valued, count_alone, index_valued, joined, named, repeat_valued, select_valued, select_word, unary_valued, valued, word_in, word_of, word_within};
 ghost use Rattle.design_form.specs.State.{seen_in, val};
 
 use crate::constants::{self, count, is_computed, number};
 use crate::design::Design;
-use crate::extent::{Extent, left_in, possible, right_in};
-use crate::extents::{extent, select_width};
+use crate::extent::{Extent, possible};
+use crate::extents::{extent, sides, within};
 use crate::fault::EvalFault;
 use crate::operators::{before, between};
 use crate::seen::{View, seen};
-use crate::selects::{Select, part, picked};
+use crate::selects::{Select, part, part_width, picked};
 use crate::words::{bits, chosen, copies, extended};
 use rdc_tern::{Tern, any};
 use std::alloc::Global;
-use vlog_const::{family, operand_family};
-use vlog_tree::{Expr, Part};
+use vlog_tree::{Expr, Part, Unary};
 
 /// A part between two constants.
-#[tactic(auto, unfolding(crate::specs::Values::select_word, crate::specs::Values::select_width))]
+#[tactic(auto, unfolding(crate::specs::Values::select_word))]
 fn constant_part(
     alloc: Global,
     view: &View,
@@ -29,14 +27,10 @@ fn constant_part(
 ) -> Result<Vec<Tern>, EvalFault>
     ensures { IfOk result (λ w. (a : Valued) → w.items ≡ select_word (view_of view.now) Part.Fixed first.now a second.now) }
 {
-    let width = select_width(alloc, view, Part::Fixed, first, second)?;
-    part(
-        alloc,
-        view.range,
-        view.word.as_slice(),
-        number(alloc, second)?,
-        width,
-    )
+    let first = number(alloc, first)?;
+    let second = number(alloc, second)?;
+    let width = part_width(view.range, first, second)?;
+    part(alloc, view.range, view.word.as_slice(), second, width)
 }
 
 /// The word of an expression that stands alone.
@@ -61,59 +55,29 @@ fn word(
     ensures { IfOk result (λ w. w.items ≡ word_in (seen_in design.now state.now) (shape_of context) e.now) }
 {
     match e {
-        Expr::Number(_, n) => extended(bits(alloc, n.width as usize, n.bits)?, context),
-        Expr::Name(_, name) => {
-            let View { word, .. } = seen(alloc, design, state, name.as_slice())?;
-            extended(word, context)
+        Expr::Number(_, n) => {
+            let n = n.get();
+            extended(bits(alloc, n.width as usize, n.bits)?, context)
         }
-        Expr::Index(_, name, at) => {
-            let view = seen(alloc, design, state, name.as_slice())?;
-            let bit = index(alloc, design, state, &view, at.get())?;
-            extended(bit, context)
-        }
-        Expr::Select(_, name, part, first, second) => {
-            let view = seen(alloc, design, state, name.as_slice())?;
-            let bits = select(
-                alloc,
-                design,
-                state,
-                &view,
-                *part,
-                first.get(),
-                second.get(),
-            )?;
-            extended(bits, context)
+        Expr::Name(_, name) => named(alloc, design, state, name.as_slice(), context),
+        Expr::Index(_, name, at) => index(alloc, design, state, name.as_slice(), at.get(), context),
+        Expr::Select(part, _, name, first, second) => {
+            let (name, first, second) = (name.as_slice(), first.get(), second.get());
+            select(alloc, design, state, name, *part, first, second, context)
         }
         Expr::Brackets(_, inner) => word(alloc, design, state, inner.get(), context),
-        Expr::Concat(_, members) => {
-            extended(joined(alloc, design, state, members.as_slice())?, context)
-        }
-        Expr::Repeat(_, number, members) => {
-            let number = count(alloc, number.get())?;
-            let members = joined(alloc, design, state, members.as_slice())?;
-            extended(copies(alloc, number, &members)?, context)
-        }
-        Expr::Unary(_, op, inner) => {
-            let inner = inner.get();
-            let a = extent(alloc, design, state, inner)?;
-            let within = left_in(operand_family(*op), a, a, context);
-            let operand = word(alloc, design, state, inner, within)?;
-            before(alloc, *op, context, operand)
-        }
+        Expr::Concat(_, members) => concat(alloc, design, state, members.as_slice(), context),
+        Expr::Repeat(_, n, all) => repeat(alloc, design, state, all.as_slice(), n.get(), context),
+        Expr::Unary(_, op, inner) => unary(alloc, design, state, *op, inner.get(), context),
         Expr::Binary(_, op, left, right) => {
             if is_computed(*op) {
                 return constants::word(alloc, e, context);
             }
-            let left = left.get();
-            let right = right.get();
-            let a = extent(alloc, design, state, left)?;
-            let b = extent(alloc, design, state, right)?;
-            let family = family(*op);
-            let within = left_in(family, a, b, context);
-            let x = word(alloc, design, state, left, within)?;
-            let within = right_in(family, a, b, context);
-            let y = word(alloc, design, state, right, within)?;
-            between(alloc, *op, a.common(b).signed, context, x, y)
+            let (left, right) = (left.get(), right.get());
+            let sides = sides(alloc, design, state, *op, left, right, context)?;
+            let x = word(alloc, design, state, left, sides.left)?;
+            let y = word(alloc, design, state, right, sides.right)?;
+            between(alloc, *op, sides.signed, context, x, y)
         }
         Expr::Conditional(_, test, left, right) => {
             let test = alone(alloc, design, state, test.get())?;
@@ -124,6 +88,69 @@ fn word(
     }
 }
 
+/// A name.
+fn named(
+    alloc: Global,
+    design: &Design,
+    state: &[Tern],
+    name: &[u8],
+    context: Extent,
+) -> Result<Vec<Tern>, EvalFault>
+    ensures { IfOk result (λ w. w.items ≡ (named (seen_in design.now state.now name.now)).word (shape_of context)) }
+{
+    let View { word, .. } = seen(alloc, design, state, name)?;
+    extended(word, context)
+}
+
+/// Members side by side.
+#[cycle(words)]
+fn concat(
+    alloc: Global,
+    design: &Design,
+    state: &[Tern],
+    members: &[Expr],
+    context: Extent,
+) -> Result<Vec<Tern>, EvalFault>
+    ensures { IfOk result (λ w. w.items ≡ (concat_valued (map (valued (seen_in design.now state.now)) members.now)).word (shape_of context)) }
+{
+    extended(joined(alloc, design, state, members)?, context)
+}
+
+/// Copies of members.
+#[cycle(words)]
+fn repeat(
+    alloc: Global,
+    design: &Design,
+    state: &[Tern],
+    members: &[Expr],
+    number: &Expr,
+    context: Extent,
+) -> Result<Vec<Tern>, EvalFault>
+    ensures { IfOk result (λ w. w.items ≡ (repeat_valued (count_alone number.now) (map (valued (seen_in design.now state.now)) members.now)).word (shape_of context)) }
+{
+    let number = count(alloc, number)?;
+    let members = joined(alloc, design, state, members)?;
+    extended(copies(alloc, number, &members)?, context)
+}
+
+/// An operator before its operand.
+#[cycle(words)]
+#[tactic(auto, unfolding(vlog_const::specs::Widths::unary_context))]
+fn unary(
+    alloc: Global,
+    design: &Design,
+    state: &[Tern],
+    op: Unary,
+    inner: &Expr,
+    context: Extent,
+) -> Result<Vec<Tern>, EvalFault>
+    ensures { IfOk result (λ w. w.items ≡ (unary_valued op (valued (seen_in design.now state.now) inner.now)).word (shape_of context)) }
+{
+    let within = within(alloc, design, state, op, inner, context)?;
+    let operand = word(alloc, design, state, inner, within)?;
+    before(alloc, op, context, operand)
+}
+
 /// A bit by an index.
 #[cycle(words)]
 #[tactic(auto, using(crate::proofs::WidthLemmas::widths))]
@@ -131,11 +158,13 @@ fn index(
     alloc: Global,
     design: &Design,
     state: &[Tern],
-    view: &View,
+    name: &[u8],
     at: &Expr,
+    context: Extent,
 ) -> Result<Vec<Tern>, EvalFault>
-    ensures { IfOk result (λ w. w.items ≡ picked Part.Down (view_of view.now) 1 (valued (seen_in design.now state.now) at.now).shape (word_of (seen_in design.now state.now) at.now)) }
+    ensures { IfOk result (λ w. w.items ≡ (index_valued (seen_in design.now state.now name.now) (valued (seen_in design.now state.now) at.now)).word (shape_of context)) }
 {
+    let view = seen(alloc, design, state, name)?;
     let a = extent(alloc, design, state, at)?;
     let at = word(alloc, design, state, at, a)?;
     let select = Select {
@@ -143,25 +172,31 @@ fn index(
         range: view.range,
         width: 1,
     };
-    picked(alloc, select, view.word.as_slice(), a, &at)
+    let bit = picked(alloc, select, view.word.as_slice(), a, &at)?;
+    extended(bit, context)
 }
 
-/// The bits of a select.
+/// A select of bits.
 #[cycle(words)]
 #[tactic(auto, using(crate::proofs::WidthLemmas::widths), unfolding(crate::specs::Values::select_word))]
 fn select(
     alloc: Global,
     design: &Design,
     state: &[Tern],
-    view: &View,
+    name: &[u8],
     part: Part,
     first: &Expr,
     second: &Expr,
+    context: Extent,
 ) -> Result<Vec<Tern>, EvalFault>
-    ensures { IfOk result (λ w. w.items ≡ select_word (view_of view.now) part first.now (valued (seen_in design.now state.now) first.now) second.now) }
+    ensures { IfOk result (λ w. w.items ≡ (select_valued (seen_in design.now state.now name.now) part first.now (valued (seen_in design.now state.now) first.now) second.now).word (shape_of context)) }
 {
+    let view = seen(alloc, design, state, name)?;
     match part {
-        Part::Fixed => constant_part(alloc, view, first, second),
+        Part::Fixed => {
+            let bits = constant_part(alloc, &view, first, second)?;
+            extended(bits, context)
+        }
         Part::Up | Part::Down => {
             let width = possible(count(alloc, second)?)?;
             let a = extent(alloc, design, state, first)?;
@@ -171,7 +206,8 @@ fn select(
                 range: view.range,
                 width,
             };
-            picked(alloc, select, view.word.as_slice(), a, &at)
+            let bits = picked(alloc, select, view.word.as_slice(), a, &at)?;
+            extended(bits, context)
         }
     }
 }

@@ -1,5 +1,6 @@
 //! Laws of values. They compute nothing.
 
+ghost use Rattle.design_form.specs.ConstantLaws.{AgreesWithConstants};
 ghost use Rattle.design_form.specs.ValueLaws.{HaveWidths, RaisesValues, SettlesValues};
 
 /// A word in a context has the context's width.
@@ -15,4 +16,9 @@ pub fn values_are_monotone()
 /// A settled state gives settled values.
 pub fn values_settle()
     ensures { SettlesValues }
+{}
+
+/// A constant expression is worth its bits: with a number in the place of each constant, whatever the design and its state.
+pub fn values_agree_with_constants()
+    ensures { AgreesWithConstants }
 {}

@@ -22,11 +22,14 @@ mod seen;
 mod selects;
 mod signal;
 mod start;
+mod tables;
 mod words;
 
 pub use design::Design;
 pub use evaluator::{eval, eval_within};
 pub use fault::{DesignFault, EvalFault};
-pub use laws::{values_are_monotone, values_have_widths, values_settle};
+pub use laws::{
+    values_agree_with_constants, values_are_monotone, values_have_widths, values_settle,
+};
 pub use parts::{BlackBox, BoxPort, Driver, DriverKind, GateUse, Parts, Process, Side, TopPort};
 pub use signal::{Bounds, Signal, SignalKind};

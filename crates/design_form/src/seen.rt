@@ -1,11 +1,11 @@
 //! What names stand for in a state of a design.
-ghost use Rattle.std.specs.Prelude.{◌≡◌, [], false, map, IfOk};
+ghost use Rattle.std.specs.Prelude.{◌≡◌, [], false, List, map, IfOk};
 ghost use Rattle.design_form.specs.Extents.{shape_of, view_of};
 ghost use Rattle.design_form.specs.Values.{named};
 ghost use Rattle.design_form.specs.State.{seen_in, value_at};
 
 use crate::design::Design;
-use crate::extent::Extent;
+use crate::extent::{Extent, unsigned};
 use crate::fault::EvalFault;
 use crate::signal::Bounds;
 use rdc_tern::Tern;
@@ -33,7 +33,7 @@ fn value_at(state: &[Tern], number: u32) -> Tern
 fn values(alloc: Global, state: &[Tern], numbers: &[u32]) -> Result<Vec<Tern>, EvalFault>
     ensures { IfOk result (λ w. w.items ≡ map (value_at state.now) numbers.now) }
 {
-    let mut word = Vec::new(alloc);
+    let mut word = Vec::with_capacity(alloc, numbers.len())?;
     for number in numbers {
         word.push(value_at(state, *number))?;
     }
@@ -76,14 +76,27 @@ pub(crate) fn seen(
     })
 }
 
-impl View {
-    /// The extent of the name by itself.
-    pub(crate) fn extent(&self) -> Extent
-        ensures { shape_of result ≡ (named (view_of self.now)).shape }
-    {
-        Extent {
-            width: self.word.len(),
-            signed: self.signed,
-        }
+/// The range of a name.
+#[tactic(auto, unfolding(crate::specs::State::seen_in, crate::specs::State::seen_as))]
+pub(crate) fn range_of(design: &Design, name: &[u8]) -> Bounds
+    ensures { (state : List Tern) → (seen_in design.now state name.now).range ≡ result }
+{
+    match design.signal(name) {
+        Some(signal) => signal.bounds(),
+        None => Bounds { msb: 0, lsb: 0 },
+    }
+}
+
+/// The extent of a name by itself. Its values are not looked at.
+#[tactic(auto, using(crate::proofs::SeenLemmas::shapes), unfolding(crate::specs::State::seen_in, crate::specs::State::seen_as))]
+pub(crate) fn extent_of(design: &Design, name: &[u8]) -> Extent
+    ensures { (state : List Tern) → shape_of result ≡ (named (seen_in design.now state name.now)).shape }
+{
+    match design.signal(name) {
+        Some(signal) => Extent {
+            width: signal.bounds().width(),
+            signed: signal.signed,
+        },
+        None => unsigned(0),
     }
 }

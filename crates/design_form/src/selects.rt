@@ -1,6 +1,7 @@
 //! Selects of a signal's bits, by constants and by a variable index.
 ghost use Rattle.std.specs.Prelude.{◌≡◌, ◌+◌, ◌-◌, ◌*◌, ◌<◌, ◌≤◌, ◌^◌, min, length, nat_le, IfOk};
 ghost use Rattle.vlog_const.specs.Selects.{span};
+ghost use Rattle.rdc_tern.specs.Words.{eq_of};
 ghost use Rattle.design_form.specs.Extents.{shape_of};
 ghost use Rattle.design_form.specs.Signals.{is_down, lowest, width_of};
 ghost use Rattle.design_form.specs.Bits.{can_be, start_word};
@@ -10,8 +11,8 @@ use crate::extent::{Extent, possible};
 use crate::fault::EvalFault;
 use crate::signal::Bounds;
 use crate::start::Start;
-use crate::words::{bits, fits, inverted};
-use rdc_tern::{Tern, eq};
+use crate::words::fits;
+use rdc_tern::Tern;
 use std::alloc::Global;
 use vlog_const::Whole;
 use vlog_tree::Part;
@@ -128,15 +129,17 @@ fn can_be(extent: Extent, start: Start) -> bool
     }
 }
 
-/// A start as a word.
-#[tactic(auto, unfolding(crate::specs::Bits::start_word))]
-fn start_word(alloc: Global, width: usize, start: Start) -> Result<Vec<Tern>, EvalFault>
-    ensures { IfOk result (λ w. w.items ≡ start_word width start) }
+/// Whether an index is a start, which is a word as wide.
+fn equals(index: &[Tern], start: Start) -> Tern
+    ensures { result ≡ eq_of index.now (start_word (length index.now) start) }
 {
-    match start {
-        Start::From(n) => bits(alloc, width, n as u128),
-        Start::Below(n) => inverted(alloc, &bits(alloc, width, n as u128)?),
+    let mut equal = Tern::One;
+    let mut left = start;
+    for i in 0..index.len() {
+        equal = equal.and(index[i].xor(left.low_bit()).not());
+        left = left.halved();
     }
+    equal
 }
 
 /// A select of a variable index: how it is written, the range, and the width.
@@ -149,23 +152,17 @@ pub(crate) struct Select {
 
 /// Whether an index is a start.
 #[tactic(auto, unfolding(crate::specs::Selects::hit))]
-fn hit(
-    alloc: Global,
-    select: Select,
-    extent: Extent,
-    index: &[Tern],
-    number: usize,
-) -> Result<Tern, EvalFault>
+fn hit(select: Select, extent: Extent, index: &[Tern], number: usize) -> Tern
     requires number { number < 2 ^ 63 + 2 ^ 33 }
     requires width { length index.now ≡ extent.width }
-    ensures { IfOk result (λ t. t ≡ hit select.part select.range select.width (shape_of extent) index.now number) }
+    ensures { result ≡ hit select.part select.range select.width (shape_of extent) index.now number }
 {
     let start = start_of(select.part, select.range, select.width, number);
-    if !can_be(extent, start) {
-        return Ok(Tern::Zero);
+    if can_be(extent, start) {
+        equals(index, start)
+    } else {
+        Tern::Zero
     }
-    let word = start_word(alloc, extent.width, start)?;
-    Ok(eq(index, &word))
 }
 
 /// Which of the starts an index is.
@@ -183,8 +180,7 @@ fn hits(
     let mut hits = Vec::new(alloc);
     let count = select.range.width() + select.width - 1;
     for number in 0..count {
-        let hit = hit(alloc, select, extent, index, number)?;
-        hits.push(hit)?;
+        hits.push(hit(select, extent, index, number))?;
     }
     Ok(hits)
 }

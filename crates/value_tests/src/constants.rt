@@ -6,12 +6,12 @@ mod faults;
 mod operators;
 mod widths;
 
-use rdc_outside::{Place, Seq};
+use rdc_outside::Place;
 use sqlite_items::{Boxed, Items};
 use std::alloc::{AllocError, Global};
 use std::test::Fail;
 use vlog_const::{ConstFault, ConstValue, Env, value, value_within};
-use vlog_tree::{Base, Binary, Expr, Number, Part, Unary};
+use vlog_tree::{Base, Binary, Expr, Name, Number, Part, Unary};
 
 /// One step of an expression.
 #[derive(Clone, Copy)]
@@ -39,7 +39,7 @@ fn place_of(e: &Expr) -> Place {
         Expr::Number(place, _)
         | Expr::Name(place, _)
         | Expr::Index(place, _, _)
-        | Expr::Select(place, _, _, _, _)
+        | Expr::Select(_, place, _, _, _)
         | Expr::Brackets(place, _)
         | Expr::Concat(place, _)
         | Expr::Repeat(place, _, _)
@@ -49,7 +49,13 @@ fn place_of(e: &Expr) -> Place {
     }
 }
 
-fn number(place: Place, width: u32, signed: bool, bits: u128) -> Expr {
+fn number(
+    alloc: Global,
+    place: Place,
+    width: u32,
+    signed: bool,
+    bits: u128,
+) -> Result<Expr, AllocError> {
     let number = Number {
         sized: true,
         signed,
@@ -58,11 +64,11 @@ fn number(place: Place, width: u32, signed: bool, bits: u128) -> Expr {
         bits,
         z: 0,
     };
-    Expr::Number(place, number)
+    Ok(Expr::Number(place, Boxed::new(alloc, number)?))
 }
 
-fn named(alloc: Global, bytes: &[u8]) -> Result<Seq<u8>, AllocError> {
-    Ok(Seq::from_vec(Vec::from_slice(alloc, bytes)?))
+fn named(alloc: Global, bytes: &[u8]) -> Result<Name, AllocError> {
+    Name::from_slice(alloc, bytes)
 }
 
 fn top(stack: &mut Vec<Expr>) -> Result<Expr, Fail> {
@@ -94,7 +100,7 @@ fn select(
 ) -> Result<Expr, Fail> {
     let second = Boxed::new(alloc, top(stack)?)?;
     let first = Boxed::new(alloc, top(stack)?)?;
-    Ok(Expr::Select(place, named(alloc, name)?, part, first, second))
+    Ok(Expr::Select(part, place, named(alloc, name)?, first, second))
 }
 
 fn between(alloc: Global, op: Binary, stack: &mut Vec<Expr>) -> Result<Expr, Fail> {
@@ -116,8 +122,8 @@ fn choose(alloc: Global, stack: &mut Vec<Expr>) -> Result<Expr, Fail> {
 // What one step makes of the expressions so far.
 fn stepped(alloc: Global, place: Place, step: Step, stack: &mut Vec<Expr>) -> Result<Expr, Fail> {
     let e = match step {
-        Step::U(width, bits) => number(place, width, false, bits),
-        Step::S(width, bits) => number(place, width, true, bits),
+        Step::U(width, bits) => number(alloc, place, width, false, bits)?,
+        Step::S(width, bits) => number(alloc, place, width, true, bits)?,
         Step::Name(name) => Expr::Name(place, named(alloc, name)?),
         Step::Before(op) => Expr::Unary(place, op, Boxed::new(alloc, top(stack)?)?),
         Step::Between(op) => between(alloc, op, stack)?,

@@ -13,7 +13,7 @@ use rdc_tern::Tern;
 use sqlite_items::{Boxed, Items};
 use std::alloc::{AllocError, Global};
 use std::test::Fail;
-use vlog_tree::{Base, Binary, Expr, Number, Part, Unary};
+use vlog_tree::{Base, Binary, Expr, Name, Number, Part, Unary};
 
 const HERE: Place = Place {
     file: 0,
@@ -42,7 +42,7 @@ enum Step {
     Slice(&'static [u8], Part),
 }
 
-fn number(width: u32, signed: bool, bits: u128) -> Expr {
+fn number(alloc: Global, width: u32, signed: bool, bits: u128) -> Result<Expr, AllocError> {
     let number = Number {
         sized: true,
         signed,
@@ -51,11 +51,11 @@ fn number(width: u32, signed: bool, bits: u128) -> Expr {
         bits,
         z: 0,
     };
-    Expr::Number(HERE, number)
+    Ok(Expr::Number(HERE, Boxed::new(alloc, number)?))
 }
 
-fn named(alloc: Global, bytes: &[u8]) -> Result<Seq<u8>, AllocError> {
-    Ok(Seq::from_vec(Vec::from_slice(alloc, bytes)?))
+fn named(alloc: Global, bytes: &[u8]) -> Result<Name, AllocError> {
+    Name::from_slice(alloc, bytes)
 }
 
 fn top(stack: &mut Vec<Expr>) -> Result<Expr, Fail> {
@@ -81,7 +81,7 @@ fn last(alloc: Global, stack: &mut Vec<Expr>, count: usize) -> Result<Items<Expr
 fn select(alloc: Global, name: &[u8], part: Part, stack: &mut Vec<Expr>) -> Result<Expr, Fail> {
     let second = Boxed::new(alloc, top(stack)?)?;
     let first = Boxed::new(alloc, top(stack)?)?;
-    Ok(Expr::Select(HERE, named(alloc, name)?, part, first, second))
+    Ok(Expr::Select(part, HERE, named(alloc, name)?, first, second))
 }
 
 fn between(alloc: Global, op: Binary, stack: &mut Vec<Expr>) -> Result<Expr, Fail> {
@@ -100,8 +100,8 @@ fn choose(alloc: Global, stack: &mut Vec<Expr>) -> Result<Expr, Fail> {
 // What one step makes of the expressions so far.
 fn stepped(alloc: Global, step: Step, stack: &mut Vec<Expr>) -> Result<Expr, Fail> {
     let e = match step {
-        Step::U(width, bits) => number(width, false, bits),
-        Step::S(width, bits) => number(width, true, bits),
+        Step::U(width, bits) => number(alloc, width, false, bits)?,
+        Step::S(width, bits) => number(alloc, width, true, bits)?,
         Step::Name(name) => Expr::Name(HERE, named(alloc, name)?),
         Step::Before(op) => Expr::Unary(HERE, op, Boxed::new(alloc, top(stack)?)?),
         Step::Between(op) => between(alloc, op, stack)?,
@@ -136,7 +136,7 @@ fn design(alloc: Global, declared: &[Declared]) -> Result<Design, Fail> {
     let mut signals = Seq::new(alloc);
     for (name, signed, range, _) in declared {
         let signal = Signal {
-            name: named(alloc, *name)?,
+            name: Seq::from_vec(Vec::from_slice(alloc, *name)?),
             kind: SignalKind::Wire,
             signed: *signed,
             range: *range,

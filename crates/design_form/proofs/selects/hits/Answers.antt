@@ -10,7 +10,7 @@ pub loop-number-preserved : goal.loop-number-preserved
 loop-number-preserved c =
     let s = c.args.select in
     let wide : c.width.result ≡ width_of s.range = c.width.ensures in
-    pushed _ _ _ _ _ _ _ c.in_ok-push.ensures.items c.in_ok-hit.ensures (hits-more s.part s.range s.width (shape_of c.args.extent) c.args.index.now c.loop-number.number (starts s.range s.width) (omega (arith, wide))) c.loop-number.invariant
+    pushed _ _ _ _ _ _ _ c.in_ok-push.ensures.items c.hit.ensures (hits-more s.part s.range s.width (shape_of c.args.extent) c.args.index.now c.loop-number.number (starts s.range s.width) (omega (arith, wide))) c.loop-number.invariant
 
 pub returns : goal.returns
 returns c =

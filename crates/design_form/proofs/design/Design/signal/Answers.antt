@@ -9,7 +9,7 @@ pub returns-in-Some : goal.returns-in-Some
 returns-in-Some c =
     rw (← c.self.view_is)
     (c.at.ensures ∙ ap (λ (xs : List Signal). slice_get xs c.in-Some.place) c.as_slice.ensures
-    ∙ signal-at c.self.inside.parts.signals (numbers_at c.self.inside.places) c.args.name.now c.in-Some.place c.self.invariant.places_are (sym c.get.ensures ∙ c.in-Some.is))
+    ∙ signal-at c.self.inside.parts.signals (numbers_at c.self.inside.tables.places) c.args.name.now c.in-Some.place c.self.invariant.places_are (sym c.get.ensures ∙ c.in-Some.is))
 
 pub returns-in-None : goal.returns-in-None
-returns-in-None c = rw (← c.self.view_is) (sym (signal-nowhere c.self.inside.parts.signals (numbers_at c.self.inside.places) c.args.name.now c.self.invariant.places_are (sym c.get.ensures ∙ c.in-None.is)))
+returns-in-None c = rw (← c.self.view_is) (sym (signal-nowhere c.self.inside.parts.signals (numbers_at c.self.inside.tables.places) c.args.name.now c.self.invariant.places_are (sym c.get.ensures ∙ c.in-None.is)))
