@@ -97,6 +97,24 @@ pub(crate) fn bytes_shown(bytes: &[u8], out: &mut String) -> Result<(), AllocErr
     Ok(())
 }
 
+fn opened(word: &str, name: &[u8], out: &mut String) -> Result<(), AllocError> {
+    out.push_str(word)?;
+    bytes_shown(name, out)
+}
+
+fn operator(op: &str, out: &mut String) -> Result<(), AllocError> {
+    out.push_str("(")?;
+    out.push_str(op)
+}
+
+fn select_shown(part: Part) -> &'static str {
+    match part {
+        Part::Fixed => "(: ",
+        Part::Up => "(+: ",
+        Part::Down => "(-: ",
+    }
+}
+
 // A tree in prefix form, down to some depth.
 #[cycle(show)]
 pub(crate) fn show(
@@ -112,59 +130,59 @@ pub(crate) fn show(
         Expr::Number(_, n) => number_shown(alloc, *n.get(), out),
         Expr::Name(_, name) => bytes_shown(name.as_slice(), out),
         Expr::Index(_, name, i) => {
-            out.push_str("([] ")?;
-            bytes_shown(name.as_slice(), out)?;
-            show_next(alloc, i.get(), depth - 1, out)?;
-            out.push_str(")")
+            opened("([] ", name.as_slice(), out)?;
+            one(alloc, i.get(), depth - 1, out)
         }
         Expr::Select(part, _, name, i, j) => {
-            out.push_str(match part {
-                Part::Fixed => "(: ",
-                Part::Up => "(+: ",
-                Part::Down => "(-: ",
-            })?;
-            bytes_shown(name.as_slice(), out)?;
-            show_next(alloc, i.get(), depth - 1, out)?;
-            show_next(alloc, j.get(), depth - 1, out)?;
-            out.push_str(")")
+            opened(select_shown(*part), name.as_slice(), out)?;
+            two(alloc, i.get(), j.get(), depth - 1, out)
         }
         Expr::Brackets(_, i) => {
             out.push_str("(()")?;
-            show_next(alloc, i.get(), depth - 1, out)?;
-            out.push_str(")")
+            one(alloc, i.get(), depth - 1, out)
         }
         Expr::Concat(_, es) => {
             out.push_str("({}")?;
-            show_all(alloc, es.as_slice(), depth - 1, out)?;
-            out.push_str(")")
+            show_all(alloc, es.as_slice(), depth - 1, out)
         }
         Expr::Repeat(_, c, es) => {
             out.push_str("({{}}")?;
             show_next(alloc, c.get(), depth - 1, out)?;
-            show_all(alloc, es.as_slice(), depth - 1, out)?;
-            out.push_str(")")
+            show_all(alloc, es.as_slice(), depth - 1, out)
         }
         Expr::Unary(_, op, u) => {
-            out.push_str("(")?;
-            out.push_str(unary_shown(*op))?;
-            show_next(alloc, u.get(), depth - 1, out)?;
-            out.push_str(")")
+            operator(unary_shown(*op), out)?;
+            one(alloc, u.get(), depth - 1, out)
         }
         Expr::Binary(_, op, a, b) => {
-            out.push_str("(")?;
-            out.push_str(binary_shown(*op))?;
-            show_next(alloc, a.get(), depth - 1, out)?;
-            show_next(alloc, b.get(), depth - 1, out)?;
-            out.push_str(")")
+            operator(binary_shown(*op), out)?;
+            two(alloc, a.get(), b.get(), depth - 1, out)
         }
         Expr::Conditional(_, test, yes, no) => {
             out.push_str("(?")?;
             show_next(alloc, test.get(), depth - 1, out)?;
-            show_next(alloc, yes.get(), depth - 1, out)?;
-            show_next(alloc, no.get(), depth - 1, out)?;
-            out.push_str(")")
+            two(alloc, yes.get(), no.get(), depth - 1, out)
         }
     }
+}
+
+#[cycle(show)]
+fn one(alloc: Global, e: &Expr, depth: usize, out: &mut String) -> Result<(), AllocError> {
+    show_next(alloc, e, depth, out)?;
+    out.push_str(")")
+}
+
+#[cycle(show)]
+fn two(
+    alloc: Global,
+    a: &Expr,
+    b: &Expr,
+    depth: usize,
+    out: &mut String,
+) -> Result<(), AllocError> {
+    show_next(alloc, a, depth, out)?;
+    show_next(alloc, b, depth, out)?;
+    out.push_str(")")
 }
 
 #[cycle(show)]
@@ -178,7 +196,7 @@ fn show_all(alloc: Global, es: &[Expr], depth: usize, out: &mut String) -> Resul
     for e in es {
         show_next(alloc, e, depth, out)?;
     }
-    Ok(())
+    out.push_str(")")
 }
 
 fn fault_shown(alloc: Global, fault: ExprFault) -> Result<String, AllocError> {

@@ -7,7 +7,7 @@ use std::alloc::{AllocError, Global};
 use vlog_expr::{Cursor, Stuck};
 use vlog_lex::lex;
 use vlog_stmt::{control_at, loop_header, stmt};
-use vlog_tree::{Arm, Assigns, Control, Edge, Event, Expr, Loop, Matching, Stmt};
+use vlog_tree::{Arm, Assigns, Control, Edge, Event, Expr, Ident, Loop, Matching, Stmt};
 
 // Where a statement begins.
 fn column(alloc: Global, place: Place, out: &mut String) -> Result<(), AllocError> {
@@ -32,6 +32,26 @@ fn head_shown(alloc: Global, head: &Loop, out: &mut String) -> Result<(), AllocE
     value(alloc, head.step.get(), out)
 }
 
+// A word, and where the statement begins.
+fn spot(alloc: Global, word: &str, place: Place, out: &mut String) -> Result<(), AllocError> {
+    out.push_str(word)?;
+    column(alloc, place, out)
+}
+
+fn assigned(alloc: Global, target: &Expr, e: &Expr, out: &mut String) -> Result<(), AllocError> {
+    value(alloc, target, out)?;
+    value(alloc, e, out)?;
+    out.push_str(")")
+}
+
+fn name_shown(name: &Option<Ident>, out: &mut String) -> Result<(), AllocError> {
+    let Some(name) = name else {
+        return Ok(());
+    };
+    out.push_str(" :")?;
+    bytes_shown(name.name.as_slice(), out)
+}
+
 // A statement in prefix form with the column where it begins, down to some depth.
 #[cycle(tell)]
 fn tell(alloc: Global, s: &Stmt, depth: usize, out: &mut String) -> Result<(), AllocError> {
@@ -39,58 +59,56 @@ fn tell(alloc: Global, s: &Stmt, depth: usize, out: &mut String) -> Result<(), A
         return Ok(());
     }
     match s {
-        Stmt::Empty(place) => {
-            out.push_str(";")?;
-            column(alloc, *place, out)
-        }
+        Stmt::Empty(place) => spot(alloc, ";", *place, out),
         Stmt::Block(place, name, body) => {
-            out.push_str("(begin")?;
-            column(alloc, *place, out)?;
-            if let Some(name) = name {
-                out.push_str(" :")?;
-                bytes_shown(name.name.as_slice(), out)?;
-            }
-            tell_all(alloc, body.as_slice(), depth - 1, out)?;
-            out.push_str(")")
+            spot(alloc, "(begin", *place, out)?;
+            name_shown(name, out)?;
+            tell_all(alloc, body.as_slice(), depth - 1, out)
         }
         Stmt::Assign(place, target, by, e) => {
-            out.push_str(match by {
+            let word = match by {
                 Assigns::Blocking => "(=",
                 Assigns::Nonblocking => "(<=",
-            })?;
-            column(alloc, *place, out)?;
-            value(alloc, target, out)?;
-            value(alloc, e, out)?;
-            out.push_str(")")
+            };
+            spot(alloc, word, *place, out)?;
+            assigned(alloc, target, e, out)
         }
         Stmt::If(place, test, yes, no) => {
-            out.push_str("(if")?;
-            column(alloc, *place, out)?;
+            spot(alloc, "(if", *place, out)?;
             value(alloc, test, out)?;
-            tell_next(alloc, yes.get(), depth - 1, out)?;
-            if let Some(no) = no {
-                tell_next(alloc, no.get(), depth - 1, out)?;
-            }
-            out.push_str(")")
+            tell_sides(alloc, yes.get(), no, depth - 1, out)
         }
         Stmt::Case(place, matching, e, arms) => {
-            out.push_str(match matching {
+            let word = match matching {
                 Matching::Exact => "(case",
                 Matching::Wildcard => "(casez",
-            })?;
-            column(alloc, *place, out)?;
+            };
+            spot(alloc, word, *place, out)?;
             value(alloc, e, out)?;
-            tell_arms(alloc, arms.as_slice(), depth - 1, out)?;
-            out.push_str(")")
+            tell_arms(alloc, arms.as_slice(), depth - 1, out)
         }
         Stmt::For(place, head, body) => {
-            out.push_str("(for")?;
-            column(alloc, *place, out)?;
+            spot(alloc, "(for", *place, out)?;
             head_shown(alloc, head, out)?;
             tell_next(alloc, body.get(), depth - 1, out)?;
             out.push_str(")")
         }
     }
+}
+
+#[cycle(tell)]
+fn tell_sides(
+    alloc: Global,
+    yes: &Stmt,
+    no: &Option<Boxed<Stmt>>,
+    depth: usize,
+    out: &mut String,
+) -> Result<(), AllocError> {
+    tell_next(alloc, yes, depth, out)?;
+    if let Some(no) = no {
+        tell_next(alloc, no.get(), depth, out)?;
+    }
+    out.push_str(")")
 }
 
 #[cycle(tell)]
@@ -104,7 +122,7 @@ fn tell_all(alloc: Global, ss: &[Stmt], depth: usize, out: &mut String) -> Resul
     for s in ss {
         tell_next(alloc, s, depth, out)?;
     }
-    Ok(())
+    out.push_str(")")
 }
 
 #[cycle(tell)]
@@ -122,7 +140,7 @@ fn tell_arms(
         tell_next(alloc, arm.body.get(), depth, out)?;
         out.push_str(")")?;
     }
-    Ok(())
+    out.push_str(")")
 }
 
 fn labels_shown(alloc: Global, labels: &[Expr], out: &mut String) -> Result<(), AllocError> {
@@ -176,6 +194,14 @@ fn left_shown(alloc: Global, cursor: &Cursor<'_>, out: &mut String) -> Result<()
     out.push_str(shown.as_str())
 }
 
+// A statement and what is left.
+fn told(alloc: Global, s: &Stmt, cursor: &Cursor<'_>) -> Result<String, AllocError> {
+    let mut out = String::new(alloc);
+    tell(alloc, s, 300, &mut out)?;
+    left_shown(alloc, cursor, &mut out)?;
+    Ok(out)
+}
+
 // The statement that a line begins with and how many tokens it leaves; or where its reader stops.
 pub(crate) fn statement(alloc: Global, room: usize, bytes: &[u8]) -> Result<String, AllocError> {
     let text = text_of(alloc, bytes)?;
@@ -189,13 +215,18 @@ pub(crate) fn statement(alloc: Global, room: usize, bytes: &[u8]) -> Result<Stri
     );
     match stmt(alloc, &mut cursor, room) {
         Err(why) => stop_shown(alloc, why, &cursor),
-        Ok(s) => {
-            let mut out = String::new(alloc);
-            tell(alloc, &s, 300, &mut out)?;
-            left_shown(alloc, &cursor, &mut out)?;
-            Ok(out)
-        }
+        Ok(s) => told(alloc, &s, &cursor),
     }
+}
+
+fn control_told(alloc: Global, found: &Control, cursor: &Cursor<'_>) -> Result<String, AllocError> {
+    let mut out = String::new(alloc);
+    match found {
+        Control::Reads => out.push_str("*")?,
+        Control::Events(events) => events_shown(alloc, events.as_slice(), &mut out)?,
+    }
+    left_shown(alloc, cursor, &mut out)?;
+    Ok(out)
 }
 
 // The same of what stands behind `@`.
@@ -211,16 +242,15 @@ pub(crate) fn control(alloc: Global, depth: usize, bytes: &[u8]) -> Result<Strin
     );
     match control_at(alloc, &mut cursor, depth) {
         Err(why) => stop_shown(alloc, why, &cursor),
-        Ok(found) => {
-            let mut out = String::new(alloc);
-            match &found {
-                Control::Reads => out.push_str("*")?,
-                Control::Events(events) => events_shown(alloc, events.as_slice(), &mut out)?,
-            }
-            left_shown(alloc, &cursor, &mut out)?;
-            Ok(out)
-        }
+        Ok(found) => control_told(alloc, &found, &cursor),
     }
+}
+
+fn head_told(alloc: Global, head: &Loop, cursor: &Cursor<'_>) -> Result<String, AllocError> {
+    let mut out = String::new(alloc);
+    head_shown(alloc, head, &mut out)?;
+    left_shown(alloc, cursor, &mut out)?;
+    Ok(out)
 }
 
 // The same of what stands behind `for`.
@@ -236,11 +266,6 @@ pub(crate) fn header(alloc: Global, room: usize, bytes: &[u8]) -> Result<String,
     );
     match loop_header(alloc, &mut cursor, room) {
         Err(why) => stop_shown(alloc, why, &cursor),
-        Ok(head) => {
-            let mut out = String::new(alloc);
-            head_shown(alloc, &head, &mut out)?;
-            left_shown(alloc, &cursor, &mut out)?;
-            Ok(out)
-        }
+        Ok(head) => head_told(alloc, &head, &cursor),
     }
 }

@@ -10,3 +10,9 @@ decreases-show_next l = 3 * l.depth + 1
 
 abbrev pub decreases-show_all : goal.decreases-show_all
 decreases-show_all l = 3 * l.depth + 2
+
+abbrev pub decreases-one : goal.decreases-one
+decreases-one l = 3 * l.depth + 2
+
+abbrev pub decreases-two : goal.decreases-two
+decreases-two l = 3 * l.depth + 2

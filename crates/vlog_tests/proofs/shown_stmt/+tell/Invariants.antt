@@ -13,3 +13,6 @@ decreases-tell_all l = 3 * l.depth + 2
 
 abbrev pub decreases-tell_arms : goal.decreases-tell_arms
 decreases-tell_arms l = 3 * l.depth + 2
+
+abbrev pub decreases-tell_sides : goal.decreases-tell_sides
+decreases-tell_sides l = 3 * l.depth + 2
