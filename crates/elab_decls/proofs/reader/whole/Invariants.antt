@@ -1,0 +1,7 @@
+-- What is left decides.
+use Rattle.std.proofs.Common.{◌≡◌, drop}
+use Rattle.elab_decls.specs.Tables.{table_of, whole}
+use Rattle.elab_decls.proofs.reader.whole.Given as goal
+
+abbrev pub invariant-loop-port : goal.invariant-loop-port
+invariant-loop-port l = whole (table_of l.table) (drop l.port-index l.ports) ≡ whole (table_of l.table) l.ports
