@@ -9,7 +9,7 @@ use Rattle.std.proofs.lemmas.Bool.{cases_Bool, cond-true, cond-false}
 use Rattle.std.proofs.lemmas.Cmp.{nat_list_eq_equiv}
 use Rattle.std.proofs.lemmas.Slice.Eq.{bytes_eq-Decides}
 use Rattle.elab_decls.specs.declared.entry.Entry.{Entry}
-use Rattle.elab_decls.specs.Tables.{with_entry}
+use Rattle.elab_decls.specs.Tables.{changed}
 
 -- no key is equal to two names
 apart : (name other key : List ℕ) → bytes_eq name other ≡ false → bytes_eq name key ≡ true → bytes_eq other key ≡ false
@@ -20,7 +20,7 @@ unfolding KeepsOthers
 others eq test old new h = h
 
 -- what the table has at each name
-pub updated : {S : Type 0} (m n : HashMap (Vec ℕ Global) Entry S) (name : List ℕ) (e : Entry) → hash.UpdatesBy (λ x y. bytes_eq x.items y.items) (λ key. bytes_eq name key.items) m n (Some e) → (λ (other : List ℕ). hash.get_by (λ key. bytes_eq other key.items) n) ≡ with_entry (λ other. hash.get_by (λ key. bytes_eq other key.items) m) name e
+pub updated : {S : Type 0} (m n : HashMap (Vec ℕ Global) Entry S) (name : List ℕ) (e : Entry) → hash.UpdatesBy (λ x y. bytes_eq x.items y.items) (λ key. bytes_eq name key.items) m n (Some e) → (λ (other : List ℕ). hash.get_by (λ key. bytes_eq other key.items) n) ≡ changed (λ other. hash.get_by (λ key. bytes_eq other key.items) m) name e
 updated m n name e h =
     fun_ext (λ other.
     ⊎_elim

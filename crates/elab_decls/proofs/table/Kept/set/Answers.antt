@@ -1,6 +1,6 @@
 -- The table has the entry at its name, and the others stay.
 use Rattle.elab_decls.proofs.TableLemmas.{updated}
-use Rattle.elab_decls.proofs.table.Entries.set.Goals as goal
+use Rattle.elab_decls.proofs.table.Kept.set.Goals as goal
 
 pub returns : goal.returns
 returns c = updated c.args.self.now.table c.insert.new.self c.args.name.items c.args.entry c.in_ok-insert.ensures.updates
