@@ -20,7 +20,7 @@ use Rattle.vlog_tree.specs.declared.item.Instance.{Instance}
 use Rattle.vlog_tree.specs.declared.item.Block.{Block}
 use Rattle.vlog_tree.specs.declared.item.Item.{Item, Item-F, fold-roll-Item}
 use Rattle.vlog_tree.specs.declared.item.Item.TheVariants as i
-use Rattle.elab_decls.specs.declared.mention.Sort.TheVariants.{Directed, Wire, Register, Integer, Thing}
+use Rattle.elab_decls.specs.declared.mention.Sort.TheVariants.{Directed, Wire, Register, Integer, Genvar, Thing}
 use Rattle.elab_decls.specs.Mentions.{Said, all_said, said_of_item, said_by_parts}
 
 -- those of parts, one after another
@@ -44,7 +44,7 @@ pub said-Integers : (place : Place) (names : List Ident) → said_of_item (i.Int
 unfolding said_of_item said_by_parts
 said-Integers place names = ap said_of_item (sym (i.rolls-Integers place names)) ∙ fold-roll-Item (List Said) said_by_parts (Item-F.Integers place names)
 
-pub said-Genvars : (place : Place) (names : List Ident) → said_of_item (i.Genvars place names) ≡ all_said Some Thing false names
+pub said-Genvars : (place : Place) (names : List Ident) → said_of_item (i.Genvars place names) ≡ all_said Some Genvar false names
 unfolding said_of_item said_by_parts
 said-Genvars place names = ap said_of_item (sym (i.rolls-Genvars place names)) ∙ fold-roll-Item (List Said) said_by_parts (Item-F.Genvars place names)
 

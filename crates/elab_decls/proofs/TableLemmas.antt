@@ -1,5 +1,5 @@
--- A table of entries, after one name gets another one.
-use Rattle.std.proofs.Common.{◌≡◌, ℕ, Bool, true, false, List, Some, Vec, Global, sym, subst, ◌∙◌, ⊎_elim}
+-- A hashed table, after one name gets another value.
+use Rattle.std.proofs.Common.{◌≡◌, ℕ, Bool, true, false, if◌then◌else◌, List, Option, Some, Vec, Global, sym, subst, ◌∙◌, ⊎_elim}
 use mathlib.Core.Path.{fun_ext}
 use Rattle.std.specs.Str.{bytes_eq}
 use Rattle.std.specs.Map.{lookup, IsKeyTest, AreApart, KeepsOthers}
@@ -8,8 +8,6 @@ use Rattle.std.specs.HashMap.{HashMap}
 use Rattle.std.proofs.lemmas.Bool.{cases_Bool, cond-true, cond-false}
 use Rattle.std.proofs.lemmas.Cmp.{nat_list_eq_equiv}
 use Rattle.std.proofs.lemmas.Slice.Eq.{bytes_eq-Decides}
-use Rattle.elab_decls.specs.declared.entry.Entry.{Entry}
-use Rattle.elab_decls.specs.Tables.{changed}
 
 -- no key is equal to two names
 apart : (name other key : List ℕ) → bytes_eq name other ≡ false → bytes_eq name key ≡ true → bytes_eq other key ≡ false
@@ -20,7 +18,8 @@ unfolding KeepsOthers
 others eq test old new h = h
 
 -- what the table has at each name
-pub updated : {S : Type 0} (m n : HashMap (Vec ℕ Global) Entry S) (name : List ℕ) (e : Entry) → hash.UpdatesBy (λ x y. bytes_eq x.items y.items) (λ key. bytes_eq name key.items) m n (Some e) → (λ (other : List ℕ). hash.get_by (λ key. bytes_eq other key.items) n) ≡ changed (λ other. hash.get_by (λ key. bytes_eq other key.items) m) name e
+pub updated : {S X : Type 0} (m n : HashMap (Vec ℕ Global) X S) (name : List ℕ) (e : X) → hash.UpdatesBy (λ x y. bytes_eq x.items y.items) (λ key. bytes_eq name key.items) m n (Some e)
+    → ◌≡◌ {A = List ℕ → Option X} (λ other. hash.get_by (λ key. bytes_eq other key.items) n) (λ other. if bytes_eq name other then Some e else hash.get_by (λ key. bytes_eq other key.items) m)
 updated m n name e h =
     fun_ext (λ other.
     ⊎_elim

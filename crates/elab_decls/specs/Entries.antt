@@ -34,6 +34,7 @@ begun m (sort.Directed d) = Err NoPort
 begun m sort.Wire = Ok (sole m false None (Some form.Wire))
 begun m sort.Register = Ok (sole m false None (Some form.Register))
 begun m sort.Integer = Ok (sole m false None (Some form.Integer))
+begun m sort.Genvar = Ok (sole m false None (Some form.Genvar))
 begun m sort.Thing = Ok (sole m false None (Some form.Thing))
 
 -- whether a port that is a net or a register already may have a direction

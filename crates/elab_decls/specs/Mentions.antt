@@ -14,7 +14,7 @@ use Rattle.vlog_tree.specs.declared.item.Item.TheOpen.{Item-F}
 use Rattle.vlog_tree.specs.declared.module.Parameter.{Parameter}
 use Rattle.elab_decls.specs.declared.mention.Mention.{Mention}
 use Rattle.elab_decls.specs.declared.mention.Sort.{Sort}
-use Rattle.elab_decls.specs.declared.mention.Sort.TheVariants.{Listed, Headed, Directed, Wire, Register, Integer, Thing}
+use Rattle.elab_decls.specs.declared.mention.Sort.TheVariants.{Listed, Headed, Directed, Wire, Register, Integer, Genvar, Thing}
 
 -- a name, and what a declaration says of it
 pub record Said : Type 0 where
@@ -39,7 +39,7 @@ said_by_parts (Item-F.Ports place d shape names) = all_said Some (Directed d) sh
 said_by_parts (Item-F.Wires place shape nets) = all_said (λ n. Some n.name) Wire shape.signed nets
 said_by_parts (Item-F.Registers place shape names) = all_said Some Register shape.signed names
 said_by_parts (Item-F.Integers place names) = all_said Some Integer false names
-said_by_parts (Item-F.Genvars place names) = all_said Some Thing false names
+said_by_parts (Item-F.Genvars place names) = all_said Some Genvar false names
 said_by_parts (Item-F.Parameters place shape bindings) = all_said (λ b. Some b.name) Thing false bindings
 said_by_parts (Item-F.Constants place shape bindings) = all_said (λ b. Some b.name) Thing false bindings
 said_by_parts (Item-F.Gates place which gates) = all_said (λ g. g.name) Thing false gates

@@ -12,7 +12,8 @@ pub enum Form {
     Wire,
     Register,
     Integer,
-    /// A parameter, a genvar, a gate or an instance: no signal.
+    Genvar,
+    /// A parameter, a gate or an instance: no signal.
     Thing,
 }
 
@@ -61,6 +62,7 @@ fn begun(m: Mention) -> Result<Entry, Refusal>
         Sort::Wire => (false, None, Some(Form::Wire)),
         Sort::Register => (false, None, Some(Form::Register)),
         Sort::Integer => (false, None, Some(Form::Integer)),
+        Sort::Genvar => (false, None, Some(Form::Genvar)),
         Sort::Thing => (false, None, Some(Form::Thing)),
     };
     Ok(Entry {
@@ -139,7 +141,9 @@ fn continued(e: Entry, m: Mention) -> Result<Entry, Refusal>
         Sort::Directed(direction) => directed(direction, e, m),
         Sort::Wire => further(Form::Wire, true, e, m),
         Sort::Register => further(Form::Register, may_keep(e.direction), e, m),
-        Sort::Listed | Sort::Headed(_) | Sort::Integer | Sort::Thing => Err(Refusal::Twice),
+        Sort::Listed | Sort::Headed(_) | Sort::Integer | Sort::Genvar | Sort::Thing => Err(
+            Refusal::Twice,
+        ),
     }
 }
 

@@ -16,5 +16,6 @@ mod table;
 pub use entry::{Entry, Form};
 pub use fault::DeclFault;
 pub use mention::{Mention, Sort};
+pub use naming::Naming;
 pub use reader::declared;
 pub use table::Entries;

@@ -15,7 +15,8 @@ pub enum Sort {
     Wire,
     Register,
     Integer,
-    /// A parameter, a genvar, a gate or an instance.
+    Genvar,
+    /// A parameter, a gate or an instance.
     Thing,
 }
 

@@ -5,7 +5,7 @@ ghost use Rattle.std.specs.Option.{option_copied};
 use vlog_tree::{Binding, Gate, Ident, Instance, Net, Parameter};
 
 /// What may have a name.
-pub(crate) trait Naming {
+pub trait Naming {
     ghost use Rattle.std.specs.Prelude.{Option};
     ghost use Rattle.vlog_tree.specs.declared.ident.Ident.{Ident};
 

@@ -130,7 +130,7 @@ fn enter_item(alloc: Global, table: &mut Entries, item: &Item) -> Result<(), Dec
         Item::Integers(_, names) => {
             enter_all(alloc, table, names.as_slice(), Sort::Integer, false)
         }
-        Item::Genvars(_, names) => enter_all(alloc, table, names.as_slice(), Sort::Thing, false),
+        Item::Genvars(_, names) => enter_all(alloc, table, names.as_slice(), Sort::Genvar, false),
         Item::Parameters(_, _, bindings) | Item::Constants(_, _, bindings) => {
             enter_all(alloc, table, bindings.as_slice(), Sort::Thing, false)
         }

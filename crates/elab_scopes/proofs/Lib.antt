@@ -1,0 +1,4 @@
+pub mod ThreadLemmas
+pub mod PlaceForms
+pub mod ParameterForms
+pub mod SignalForms

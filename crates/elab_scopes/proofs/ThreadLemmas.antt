@@ -1,0 +1,39 @@
+-- Steps one after another, of which those before the place k are taken.
+use Rattle.std.proofs.Common.{◌≡◌, ◌⊎◌, ℕ, suc, ◌+◌, ◌<◌, ◌≤◌, List, [], ◌∷◌, length, map, drop, get_or, Result, Ok, Err, refl, sym, ap, ◌∙◌, inl, inr, add-one, arith}
+use Rattle.std.proofs.Math.Seq.{drop-cons}
+use Rattle.std.proofs.lemmas.List.{drop_all}
+use mathlib.Core.Path.{fun_ext}
+use Rattle.elab_names.specs.declared.fault.ElabFault.{ElabFault}
+use Rattle.elab_names.specs.Answers.{Or_fault, and_then}
+use Rattle.elab_scopes.specs.Threads.{threaded, chained, Stops}
+
+-- the step at k is next
+next : {S X : Type 0} (step : S → X → Or_fault S) (s : S) (xs : List X) (k : ℕ) (x : X) → k < length xs → x ≡ get_or xs k x
+    → threaded step s (drop k xs) ≡ and_then (step s x) (λ t. threaded step t (drop (k + 1) xs))
+unfolding threaded
+next step s xs k x lt is = rw add-one (ap (threaded step s) (drop-cons xs k x lt) ∙ ap (λ y. and_then (step s y) (λ t. threaded step t (drop (suc k) xs))) (sym is))
+
+-- once it is taken, the others are left
+pub one_more : {S X : Type 0} (step : S → X → Or_fault S) (s t v : S) (xs : List X) (k : ℕ) (x : X) → k < length xs → x ≡ get_or xs k x
+    → threaded step s (drop k xs) ≡ threaded step v xs → step s x ≡ Ok t → threaded step t (drop (k + 1) xs) ≡ threaded step v xs
+unfolding and_then
+one_more step s t v xs k x lt is before done = sym (ap (λ r. and_then r (λ u. threaded step u (drop (k + 1) xs))) done) ∙ (sym (next step s xs k x lt is) ∙ before)
+
+-- where it stops, so do all
+pub one_stops : {S X : Type 0} (step : S → X → Or_fault S) (s v : S) (fault : ElabFault) (xs : List X) (k : ℕ) (x : X) → k < length xs → x ≡ get_or xs k x
+    → threaded step s (drop k xs) ≡ threaded step v xs → Stops fault (step s x) → Stops fault (threaded step v xs)
+unfolding and_then
+one_stops step s v fault xs k x lt is before (inl memory) = inl memory
+one_stops step s v fault xs k x lt is before (inr bad) = inr (sym before ∙ (next step s xs k x lt is ∙ ap (λ r. and_then r (λ u. threaded step u (drop (k + 1) xs))) bad))
+
+-- behind the last one nothing is left
+pub all_done : {S X : Type 0} (step : S → X → Or_fault S) (s v : S) (xs : List X) (k : ℕ) → length xs ≤ k
+    → threaded step s (drop k xs) ≡ threaded step v xs → threaded step v xs ≡ Ok s
+unfolding threaded
+all_done step s v xs k past before = sym before ∙ ap (threaded step s) (drop_all k xs past)
+
+-- steps that stand ready are steps for each
+pub ready : {S X : Type 0} (f : X → S → Or_fault S) (xs : List X) (s : S) → chained (map f xs) s ≡ threaded (λ t x. f x t) s xs
+unfolding chained threaded
+ready f [] s = refl
+ready f (x ∷ xs) s = ap (and_then (f x s)) (fun_ext (ready f xs))

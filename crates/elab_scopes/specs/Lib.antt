@@ -1,0 +1,5 @@
+pub mod Threads
+pub mod Ranges
+pub mod Parameters
+pub mod Signals
+pub mod Tables
