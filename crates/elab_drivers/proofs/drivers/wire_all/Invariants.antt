@@ -1,0 +1,11 @@
+-- What is left decides.
+use Rattle.std.proofs.Common.{◌≡◌, drop, Some, None, true, false}
+use Rattle.elab_names.specs.Meanings.{frames_of}
+use Rattle.elab_scopes.specs.Threads.{threaded}
+use Rattle.elab_drivers.specs.Targets.{may_drive}
+use Rattle.elab_drivers.specs.Drafts.{draft_of}
+use Rattle.elab_drivers.specs.Drivers.{wired, assigns, gated}
+use Rattle.elab_drivers.proofs.drivers.wire_all.Given as goal
+
+abbrev pub invariant-loop-net : goal.invariant-loop-net
+invariant-loop-net l = threaded (wired) (draft_of l.d) (drop l.net-index l.nets) ≡ threaded (wired) (draft_of l.fn.d) l.nets
