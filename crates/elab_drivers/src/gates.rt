@@ -21,7 +21,8 @@ use vlog_tree::{Expr, Gate, GateKind};
 #[tactic(auto, unfolding(crate::specs::Drivers::outputs))]
 fn outputs(kind: GateKind, terminals: usize) -> usize
     requires { 2 ≤ terminals }
-    ensures { result ≡ outputs kind terminals }
+    ensures value { result ≡ outputs kind terminals }
+    ensures bound { result ≤ terminals }
 {
     match kind {
         GateKind::Not | GateKind::Buf => terminals - 1,
@@ -40,8 +41,13 @@ fn outputs_in(
 {
     let mut out = Items::from_vec(Vec::with_capacity(alloc, terminals.len())?);
     for terminal in terminals {
-        let terminal = assigned(alloc, terminal, scope)?;
-        out.push(terminal)?;
+        match assigned(alloc, terminal, scope) {
+            Ok(terminal) => match out.push(terminal) {
+                Ok(()) => {}
+                Err(_) => return Err(ElabFault::Memory),
+            },
+            Err(fault) => return Err(fault),
+        }
     }
     Ok(out)
 }
@@ -57,8 +63,13 @@ fn inputs_in(
 {
     let mut out = Items::from_vec(Vec::with_capacity(alloc, terminals.len())?);
     for terminal in terminals {
-        let terminal = put_in(alloc, terminal, scope)?;
-        out.push(terminal)?;
+        match put_in(alloc, terminal, scope) {
+            Ok(terminal) => match out.push(terminal) {
+                Ok(()) => {}
+                Err(_) => return Err(ElabFault::Memory),
+            },
+            Err(fault) => return Err(fault),
+        }
     }
     Ok(out)
 }
