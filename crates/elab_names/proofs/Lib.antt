@@ -1,0 +1,6 @@
+mod NameLemmas
+mod Lists
+mod HoldForms
+mod PutForms
+mod TargetForms
+mod StatementForms

@@ -1,0 +1,273 @@
+//! Expressions in a scope, and what constant ones are worth.
+ghost use Rattle.std.specs.Prelude.{◌≡◌, ◌≤◌, map, IfOk, Ok};
+ghost use Rattle.vlog_tree.specs.declared.expr.Expr.TheVariants as expr;
+ghost use Rattle.vlog_const.specs.Names.{no_values};
+ghost use Rattle.vlog_const.specs.Constants.{value_within};
+ghost use Rattle.elab_names.specs.Answers.{Answers, gathered, lifted};
+ghost use Rattle.elab_names.specs.Expressions.{constant, constant_within, indexed, meant, named, put_in, selected};
+ghost use Rattle.elab_names.specs.Meanings.{found, frames_of};
+
+use crate::answers::{meant, not_constant};
+use crate::fault::ElabFault;
+use crate::meaning::Meaning;
+use crate::numbers::{alone, as_number, bit_in, part_in};
+use crate::scope::Scope;
+use rdc_outside::Place;
+use sqlite_items::{Boxed, Items};
+use std::alloc::{AllocError, Global};
+use vlog_const::{ConstValue, Env, value_within};
+use vlog_tree::{Binary, Expr, Name, Number, Part, Unary, fitted};
+
+/// A name.
+#[tactic(auto, unfolding(crate::specs::Expressions::named))]
+fn named(alloc: Global, place: Place, meaning: &Meaning) -> Result<Expr, ElabFault>
+    ensures { Answers (λ e. e) result (named place meaning.now) }
+{
+    match meaning {
+        Meaning::Constant(value) => Ok(as_number(alloc, place, *value)?),
+        Meaning::Signal(signal) => {
+            let name = Name::from_slice(alloc, signal.printed.as_slice())?;
+            Ok(Expr::Name(place, name))
+        }
+        Meaning::Other => Err(not_constant(place)),
+    }
+}
+
+/// `name[index]`
+#[tactic(auto, unfolding(crate::specs::Expressions::indexed))]
+fn indexed(alloc: Global, place: Place, meaning: &Meaning, index: Expr) -> Result<Expr, ElabFault>
+    ensures { Answers (λ e. e) result (indexed place meaning.now index) }
+{
+    match meaning {
+        Meaning::Constant(value) => bit_in(alloc, place, *value, &index),
+        Meaning::Signal(signal) => {
+            let name = Name::from_slice(alloc, signal.printed.as_slice())?;
+            Ok(Expr::Index(place, name, Boxed::new(alloc, index)?))
+        }
+        Meaning::Other => Err(not_constant(place)),
+    }
+}
+
+/// `name[first : second]` and its like
+#[tactic(auto, unfolding(crate::specs::Expressions::selected))]
+fn selected(
+    alloc: Global,
+    place: Place,
+    meaning: &Meaning,
+    part: Part,
+    first: Expr,
+    second: Expr,
+) -> Result<Expr, ElabFault>
+    ensures { Answers (λ e. e) result (selected place meaning.now part first second) }
+{
+    match meaning {
+        Meaning::Constant(value) => part_in(alloc, place, *value, part, &first, &second),
+        Meaning::Signal(signal) => {
+            let name = Name::from_slice(alloc, signal.printed.as_slice())?;
+            Ok(select(alloc, place, name, part, first, second)?)
+        }
+        Meaning::Other => Err(not_constant(place)),
+    }
+}
+
+/// A select of a name.
+pub(crate) fn select(
+    alloc: Global,
+    place: Place,
+    name: Name,
+    part: Part,
+    first: Expr,
+    second: Expr,
+) -> Result<Expr, AllocError>
+    ensures { IfOk result (λ e. e ≡ expr.Select part place name first second) }
+{
+    let first = Boxed::new(alloc, first)?;
+    let second = Boxed::new(alloc, second)?;
+    Ok(Expr::Select(part, place, name, first, second))
+}
+
+/// A number as it stands.
+fn number(alloc: Global, place: Place, number: &Number) -> Result<Expr, AllocError>
+    ensures { IfOk result (λ e. e ≡ expr.Number place number.now) }
+{
+    Ok(Expr::Number(place, Boxed::new(alloc, *number)?))
+}
+
+/// Brackets.
+fn brackets(alloc: Global, place: Place, inner: Expr) -> Result<Expr, AllocError>
+    ensures { IfOk result (λ e. e ≡ expr.Brackets place inner) }
+{
+    Ok(Expr::Brackets(place, Boxed::new(alloc, inner)?))
+}
+
+/// Copies of members.
+fn repeat(
+    alloc: Global,
+    place: Place,
+    count: Expr,
+    members: Items<Expr>,
+) -> Result<Expr, AllocError>
+    ensures { IfOk result (λ e. e ≡ expr.Repeat place count members) }
+{
+    Ok(Expr::Repeat(place, Boxed::new(alloc, count)?, members))
+}
+
+/// An operator before its operand.
+fn unary(alloc: Global, place: Place, op: Unary, inner: Expr) -> Result<Expr, AllocError>
+    ensures { IfOk result (λ e. e ≡ expr.Unary place op inner) }
+{
+    Ok(Expr::Unary(place, op, Boxed::new(alloc, inner)?))
+}
+
+/// An operator between its operands.
+fn binary(
+    alloc: Global,
+    place: Place,
+    op: Binary,
+    left: Expr,
+    right: Expr,
+) -> Result<Expr, AllocError>
+    ensures { IfOk result (λ e. e ≡ expr.Binary place op left right) }
+{
+    let left = Boxed::new(alloc, left)?;
+    let right = Boxed::new(alloc, right)?;
+    Ok(Expr::Binary(place, op, left, right))
+}
+
+/// `test ? left : right`
+fn conditional(
+    alloc: Global,
+    place: Place,
+    test: Expr,
+    left: Expr,
+    right: Expr,
+) -> Result<Expr, AllocError>
+    ensures { IfOk result (λ e. e ≡ expr.Conditional place test left right) }
+{
+    let test = Boxed::new(alloc, test)?;
+    let left = Boxed::new(alloc, left)?;
+    let right = Boxed::new(alloc, right)?;
+    Ok(Expr::Conditional(place, test, left, right))
+}
+
+/// An expression in a scope: each signal under its printed name, and a number in the place of each constant.
+///
+/// # Errors
+/// Of the first part in the order of reading, parts before the whole: `Undeclared` at a name that is not declared,
+/// `Const(NotConstant)` at one that has no value, and of a select of a constant `Const` where a bound has no value,
+/// `BadRange` where a position is none of the constant's, and `NotBuilt` at a variable index.
+#[cycle(parts)]
+#[tactic(auto, using(crate::proofs::PutForms::forms), unfolding(crate::specs::Answers::and_then))]
+pub fn put_in(alloc: Global, e: &Expr, scope: &Scope) -> Result<Expr, ElabFault>
+    ensures { Answers (λ e. e) result (put_in (frames_of scope.now) e.now) }
+{
+    match e {
+        Expr::Number(place, n) => Ok(number(alloc, *place, n.get())?),
+        Expr::Name(place, name) => {
+            let meaning = meant(alloc, *place, name.as_slice(), scope)?;
+            named(alloc, *place, meaning)
+        }
+        Expr::Index(place, name, index) => {
+            let meaning = meant(alloc, *place, name.as_slice(), scope)?;
+            let index = put_in(alloc, index.get(), scope)?;
+            indexed(alloc, *place, meaning, index)
+        }
+        Expr::Select(part, place, name, first, second) => {
+            let meaning = meant(alloc, *place, name.as_slice(), scope)?;
+            let first = put_in(alloc, first.get(), scope)?;
+            let second = put_in(alloc, second.get(), scope)?;
+            selected(alloc, *place, meaning, *part, first, second)
+        }
+        Expr::Brackets(place, inner) => {
+            let inner = put_in(alloc, inner.get(), scope)?;
+            Ok(brackets(alloc, *place, inner)?)
+        }
+        Expr::Concat(place, members) => {
+            let members = all_put_in(alloc, members.as_slice(), scope)?;
+            Ok(Expr::Concat(*place, members))
+        }
+        Expr::Repeat(place, count, members) => {
+            let count = put_in(alloc, count.get(), scope)?;
+            let members = all_put_in(alloc, members.as_slice(), scope)?;
+            Ok(repeat(alloc, *place, count, members)?)
+        }
+        Expr::Unary(place, op, inner) => {
+            let inner = put_in(alloc, inner.get(), scope)?;
+            Ok(unary(alloc, *place, *op, inner)?)
+        }
+        Expr::Binary(place, op, left, right) => {
+            let left = put_in(alloc, left.get(), scope)?;
+            let right = put_in(alloc, right.get(), scope)?;
+            Ok(binary(alloc, *place, *op, left, right)?)
+        }
+        Expr::Conditional(place, test, left, right) => {
+            let test = put_in(alloc, test.get(), scope)?;
+            let left = put_in(alloc, left.get(), scope)?;
+            let right = put_in(alloc, right.get(), scope)?;
+            Ok(conditional(alloc, *place, test, left, right)?)
+        }
+    }
+}
+
+/// Expressions in a scope.
+#[cycle(parts)]
+pub(crate) fn all_put_in(
+    alloc: Global,
+    members: &[Expr],
+    scope: &Scope,
+) -> Result<Items<Expr>, ElabFault>
+    ensures { Answers (λ es. es) result (gathered (map (put_in (frames_of scope.now)) members.now)) }
+{
+    let mut out = Items::from_vec(Vec::with_capacity(alloc, members.len())?);
+    for member in members {
+        let member = match put_in(alloc, member, scope) {
+            Ok(member) => member,
+            Err(fault) => return Err(fault),
+        };
+        match out.push(member) {
+            Ok(()) => {}
+            Err(_) => return Err(ElabFault::Memory),
+        }
+    }
+    Ok(out)
+}
+
+/// The value of a constant expression that stands alone.
+///
+/// # Errors
+/// As `put_in`, and `Const` where what is put in has no value as a constant: a signal in it is `NotConstant` at its place.
+#[tactic(auto, unfolding(crate::specs::Expressions::constant, crate::specs::Answers::and_then))]
+pub fn constant(alloc: Global, e: &Expr, scope: &Scope) -> Result<ConstValue, ElabFault>
+    ensures value { Answers (λ v. v) result (constant (frames_of scope.now) e.now) }
+    ensures bound { IfOk result (λ v. v.width ≤ 128) }
+{
+    let e = put_in(alloc, e, scope)?;
+    alone(alloc, &e)
+}
+
+/// The value of an expression without names in a context of at least `width` bits.
+#[tactic(auto, unfolding(crate::specs::Answers::lifted))]
+fn within(alloc: Global, e: &Expr, width: u32) -> Result<ConstValue, ElabFault>
+    ensures value { Answers (λ v. v) result (lifted (value_within no_values width e.now)) }
+    ensures bound { IfOk result (λ v. v.width ≤ 128) }
+{
+    Ok(value_within(alloc, e, &Env::new(alloc), width)?)
+}
+
+/// The value as on the right of an assignment to `width` bits.
+///
+/// # Errors
+/// As `constant`, and `Const(TooWide)` where `width` passes 128.
+#[tactic(auto, unfolding(crate::specs::Expressions::constant_within, crate::specs::Answers::and_then))]
+pub fn constant_within(
+    alloc: Global,
+    e: &Expr,
+    scope: &Scope,
+    width: u32,
+) -> Result<ConstValue, ElabFault>
+    ensures value { Answers (λ v. v) result (constant_within (frames_of scope.now) width e.now) }
+    ensures bound { IfOk result (λ v. v.width ≤ 128) }
+{
+    let e = put_in(alloc, e, scope)?;
+    within(alloc, &e, width)
+}
