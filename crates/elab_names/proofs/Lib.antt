@@ -1,4 +1,5 @@
 mod NameLemmas
+mod AnswerLemmas
 mod Lists
 mod HoldForms
 mod PutForms

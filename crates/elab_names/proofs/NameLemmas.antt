@@ -1,7 +1,7 @@
 -- A table of meanings, after one name gets another one; and frames in their order.
-use Rattle.std.proofs.Common.{◌≡◌, ℕ, Bool, true, false, List, [], ◌∷◌, ◌++◌, map, Some, None, Option, Vec, Global, refl, sym, ap, subst, ◌∙◌, ⊎_elim}
+use Rattle.std.proofs.Common.{◌≡◌, ℕ, ◌+◌, ◌-◌, ◌<◌, ◌≤◌, Bool, true, false, List, [], ◌∷◌, ◌++◌, map, take, drop, length, get_or, Some, None, Option, Vec, Global, add-one, refl, sym, ap, subst, ◌∙◌, ⊎_elim, arith}
+use Rattle.std.proofs.Math.Seq.{drop-cons, drop-length}
 use mathlib.Core.Path.{fun_ext}
-use mathlib.Core.List.{reverse}
 use Rattle.std.specs.Str.{bytes_eq}
 use Rattle.std.specs.Map.{lookup, IsKeyTest, AreApart, KeepsOthers}
 use Rattle.std.specs.HashMap as hash
@@ -10,7 +10,7 @@ use Rattle.std.specs.Option.{option_or}
 use Rattle.std.proofs.lemmas.Bool.{cases_Bool, cond-true, cond-false}
 use Rattle.std.proofs.lemmas.Slice.Eq.{bytes_eq-Decides}
 use Rattle.std.proofs.lemmas.Cmp.{nat_list_eq_equiv}
-use Rattle.std.proofs.lemmas.List.{reverse-append}
+use Rattle.std.proofs.lemmas.List.{reverse-append, take-append-drop}
 use Rattle.elab_names.specs.declared.meaning.Meaning.{Meaning}
 use Rattle.elab_names.specs.declared.frame.Frame.{Frame}
 use Rattle.elab_names.specs.Meanings.{Frames, found, with_name, names_of, names_of_all}
@@ -33,13 +33,35 @@ updated m n name v h =
     others _ _ _ _ h.3 _ (λ x y. nat_list_eq_equiv.congr other x.items y.items) (λ key. apart name other key.items differ) ∙ sym (cond-false (bytes_eq name other) (Some v) _ differ))
     (cases_Bool (bytes_eq name other)))
 
--- the last frame counts first
-pub found-last : (outer : List Frame) (last : Frame) (name : List ℕ) → found (names_of_all (outer ++ last ∷ [])) name ≡ option_or (names_of last name) (found (names_of_all outer) name)
+-- ---- the last frame counts first
+
+ended : (frames : List Frame) (last : Frame) → 1 ≤ length frames → last ≡ get_or frames (length frames - 1) last → take (length frames - 1) frames ++ last ∷ [] ≡ frames
+ended frames last some is =
+    let k = length frames - 1 in
+    let lt : k < length frames = omega arith in
+    let e : k + 1 ≡ length frames = omega arith in
+    let dropped : drop k frames ≡ get_or frames k last ∷ drop (k + 1) frames = rw (add-one, drop-cons frames k last lt) refl in
+    let behind : drop (k + 1) frames ≡ [] = ap (λ (j : ℕ). drop j frames) e ∙ drop-length frames in
+    let rest : drop k frames ≡ last ∷ [] = dropped ∙ ap (λ (f : Frame). f ∷ drop (k + 1) frames) (sym is) ∙ ap (λ (fs : List Frame). last ∷ fs) behind in
+    ap (λ (fs : List Frame). take k frames ++ fs) (sym rest) ∙ take-append-drop k frames
+
+found-last : (outer : List Frame) (last : Frame) (name : List ℕ) → found (names_of_all (outer ++ last ∷ [])) name ≡ option_or (names_of last name) (found (names_of_all outer) name)
 unfolding found
 found-last outer last name = ap (λ (fs : List Frame). found (map names_of fs) name) (reverse-append outer (last ∷ []))
 
-pub found-none : (name : List ℕ) → found (names_of_all []) name ≡ None
-unfolding found
-found-none name = refl
+split : (frames : List Frame) (last : Frame) (name : List ℕ) → 1 ≤ length frames → last ≡ get_or frames (length frames - 1) last
+    → found (names_of_all frames) name ≡ option_or (names_of last name) (found (names_of_all (take (length frames - 1) frames)) name)
+split frames last name some is = ap (λ (fs : List Frame). found (names_of_all fs) name) (sym (ended frames last some is)) ∙ found-last (take (length frames - 1) frames) last name
 
-pub ruleset lasts = (found-last, found-none)
+pub found-here : (frames : List Frame) (last : Frame) (name : List ℕ) (m : Meaning) → 1 ≤ length frames → last ≡ get_or frames (length frames - 1) last
+    → Some m ≡ names_of last name → Some m ≡ found (names_of_all frames) name
+found-here frames last name m some is here = sym (split frames last name some is ∙ ap (λ (o : Option Meaning). option_or o (found (names_of_all (take (length frames - 1) frames)) name)) (sym here))
+
+pub found-outside : (frames : List Frame) (last : Frame) (name : List ℕ) → 1 ≤ length frames → last ≡ get_or frames (length frames - 1) last
+    → None ≡ names_of last name → found (names_of_all (take (length frames - 1) frames)) name ≡ found (names_of_all frames) name
+found-outside frames last name some is none = sym (split frames last name some is ∙ ap (λ (o : Option Meaning). option_or o (found (names_of_all (take (length frames - 1) frames)) name)) (sym none))
+
+pub found-nowhere : (frames : List Frame) (name : List ℕ) → length frames < 1 → None ≡ found (names_of_all frames) name
+unfolding found
+found-nowhere [] name few = refl
+found-nowhere (f ∷ frames) name few = absurd (omega arith)

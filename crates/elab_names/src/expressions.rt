@@ -246,12 +246,15 @@ pub fn constant(alloc: Global, e: &Expr, scope: &Scope) -> Result<ConstValue, El
 }
 
 /// The value of an expression without names in a context of at least `width` bits.
-#[tactic(auto, unfolding(crate::specs::Answers::lifted))]
+#[tactic(auto, using(crate::proofs::AnswerLemmas::lifts))]
 fn within(alloc: Global, e: &Expr, width: u32) -> Result<ConstValue, ElabFault>
     ensures value { Answers (λ v. v) result (lifted (value_within no_values width e.now)) }
     ensures bound { IfOk result (λ v. v.width ≤ 128) }
 {
-    Ok(value_within(alloc, e, &Env::new(alloc), width)?)
+    match value_within(alloc, e, &Env::new(alloc), width) {
+        Ok(value) => Ok(value),
+        Err(cause) => Err(ElabFault::from(cause)),
+    }
 }
 
 /// The value as on the right of an assignment to `width` bits.

@@ -1,5 +1,5 @@
 //! Numbers in the place of constants, and of their bits.
-ghost use Rattle.std.specs.Prelude.{◌≡◌, ◌<◌, ◌≤◌, ◌+◌, ◌^◌, IfOk};
+ghost use Rattle.std.specs.Prelude.{◌≡◌, ◌≤◌, ◌/◌, ◌^◌, IfOk, IsTrue};
 ghost use Rattle.std.specs.List.{list_any};
 ghost use Rattle.vlog_const.specs.Names.{no_values};
 ghost use Rattle.vlog_const.specs.Constants.{value_of};
@@ -55,34 +55,52 @@ pub(crate) fn holds_name(e: &Expr) -> bool
 fn any_holds(members: &[Expr]) -> bool
     ensures { result ≡ list_any holds_name members.now }
 {
-    match members {
-        [] => false,
-        [first, rest @ ..] => holds_name(first) || any_holds(rest),
+    for member in members {
+        if holds_name(member) {
+            return true;
+        }
     }
+    false
 }
 
 /// The value of an expression without names.
-#[tactic(auto, unfolding(crate::specs::Answers::lifted))]
+#[tactic(auto, using(crate::proofs::AnswerLemmas::lifts))]
 pub(crate) fn alone(alloc: Global, e: &Expr) -> Result<ConstValue, ElabFault>
     ensures value { Answers (λ v. v) result (lifted (value_of no_values e.now)) }
     ensures bound { IfOk result (λ v. v.width ≤ 128) }
 {
-    Ok(value(alloc, e, &Env::new(alloc))?)
+    match value(alloc, e, &Env::new(alloc)) {
+        Ok(value) => Ok(value),
+        Err(cause) => Err(ElabFault::from(cause)),
+    }
+}
+
+/// The lowest bits of a number.
+#[tactic(auto, using(vlog_const::proofs::WordLemmas::word_steps))]
+fn low(width: u32, bits: u128) -> u128
+    ensures { result ≡ low width bits }
+{
+    if width < 128 {
+        bits % (1u128 << width)
+    } else {
+        bits
+    }
+}
+
+/// The bits of a number from a position up.
+#[tactic(auto, using(vlog_const::proofs::WordLemmas::word_steps))]
+fn above(bits: u128, start: u32) -> u128
+    ensures { result ≡ bits / 2 ^ start }
+{
+    if start < 128 { bits >> start } else { 0 }
 }
 
 /// Bits of a constant, from a position up.
-#[tactic(auto, using(vlog_const::proofs::WordLemmas::word_steps))]
 fn piece(value: ConstValue, start: u32, count: u32) -> ConstValue
     ensures { result ≡ piece value start count }
 {
-    let bits = if start < 128 { value.bits >> start } else { 0 };
-    let bits = if count < 128 {
-        bits & ((1u128 << count) - 1)
-    } else {
-        bits
-    };
     ConstValue {
-        bits,
+        bits: low(count, above(value.bits, start)),
         width: count,
         signed: false,
     }

@@ -18,7 +18,7 @@ pub struct Scope {
 }
 
 /// What a name means in frames, the last of which counts first.
-#[tactic(auto, using(crate::proofs::NameLemmas::lasts))]
+
 fn found_in<'a>(frames: &'a [Frame], name: &[u8]) -> Option<&'a Meaning>
     ensures { option_copied result ≡ found (names_of_all frames.now) name.now }
 {
