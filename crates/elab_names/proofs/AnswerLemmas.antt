@@ -6,7 +6,7 @@ use Rattle.vlog_const.specs.declared.answer.ConstFault.{ConstFault}
 use Rattle.vlog_const.specs.declared.answer.ConstFault.TheVariants as const
 use Rattle.elab_names.specs.declared.fault.ElabFault.{ElabFault}
 use Rattle.elab_names.specs.declared.fault.ElabFault.TheVariants.{Memory}
-use Rattle.elab_names.specs.Answers.{Or_fault, fault_of, lifted}
+use Rattle.elab_names.specs.Answers.{Or_fault, and_then, fault_of, lifted}
 
 memory : fault_of const.Memory ≡ Memory
 unfolding fault_of
@@ -31,3 +31,24 @@ alone-err ask values cause fault none is answer =
     lifted-err (ask no_values) cause fault is (subst (λ (v : Values). (cause ≡ const.Memory) ⊎ (ask v ≡ Err cause)) none answer)
 
 pub ruleset lifts = (lifted-ok)
+
+-- ---- steps that have a value
+
+abbrev good : {A : Type 0} → A → Or_fault A → A
+good d (Ok x) = x
+good d (Err fault) = d
+
+-- one answer has one value
+pub same_answer : {A : Type 0} (r : Or_fault A) (x y : A) → r ≡ Ok x → r ≡ Ok y → x ≡ y
+same_answer r x y h k = ap (good x) (sym h ∙ k)
+
+-- what follows has a value where its first step has one
+pub first_step : {A B : Type 0} (r : Or_fault A) (f : A → Or_fault B) (y : B) → and_then r f ≡ Ok y → (x : A) × ((r ≡ Ok x) × (f x ≡ Ok y))
+unfolding and_then
+first_step (Ok x) f y h = (x, (refl, h))
+first_step (Err fault) f y h = absurd cc
+
+pub lifted_tells : {A : Type 0} (r : Result A ConstFault) (x : A) → lifted r ≡ Ok x → r ≡ Ok x
+unfolding lifted
+lifted_tells (Ok a) x h = ap Ok (same_answer (Ok a) a x refl h)
+lifted_tells (Err fault) x h = absurd cc

@@ -5,3 +5,4 @@ mod HoldForms
 mod PutForms
 mod TargetForms
 mod StatementForms
+mod KeptWorth

@@ -34,3 +34,5 @@ more-stop {A} f out x xs fault is =
 pub more-end : {A B : Type 0} (f : B → Or_fault A) (out : List A) → more out (gathered (map f [])) ≡ Ok out
 unfolding gathered more
 more-end f out = ap Ok (append-nil out)
+
+pub ruleset gathers = (more-nil, more-step, more-stop, more-end)

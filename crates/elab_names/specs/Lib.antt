@@ -4,3 +4,4 @@ pub mod Selects
 pub mod Expressions
 pub mod Targets
 pub mod Statements
+pub mod Laws

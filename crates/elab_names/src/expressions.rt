@@ -87,15 +87,15 @@ pub(crate) fn select(
 }
 
 /// A number as it stands.
-fn number(alloc: Global, place: Place, number: &Number) -> Result<Expr, AllocError>
-    ensures { IfOk result (λ e. e ≡ expr.Number place number.now) }
+fn number(alloc: Global, place: Place, number: &Number) -> Result<Expr, ElabFault>
+    ensures { Answers (λ e. e) result (Ok (expr.Number place number.now)) }
 {
     Ok(Expr::Number(place, Boxed::new(alloc, *number)?))
 }
 
 /// Brackets.
-fn brackets(alloc: Global, place: Place, inner: Expr) -> Result<Expr, AllocError>
-    ensures { IfOk result (λ e. e ≡ expr.Brackets place inner) }
+fn brackets(alloc: Global, place: Place, inner: Expr) -> Result<Expr, ElabFault>
+    ensures { Answers (λ e. e) result (Ok (expr.Brackets place inner)) }
 {
     Ok(Expr::Brackets(place, Boxed::new(alloc, inner)?))
 }
@@ -113,8 +113,8 @@ fn repeat(
 }
 
 /// An operator before its operand.
-fn unary(alloc: Global, place: Place, op: Unary, inner: Expr) -> Result<Expr, AllocError>
-    ensures { IfOk result (λ e. e ≡ expr.Unary place op inner) }
+fn unary(alloc: Global, place: Place, op: Unary, inner: Expr) -> Result<Expr, ElabFault>
+    ensures { Answers (λ e. e) result (Ok (expr.Unary place op inner)) }
 {
     Ok(Expr::Unary(place, op, Boxed::new(alloc, inner)?))
 }
@@ -150,6 +150,15 @@ fn conditional(
     Ok(Expr::Conditional(place, test, left, right))
 }
 
+/// A name in a scope.
+#[tactic(auto, using(crate::proofs::PutForms::forms), unfolding(crate::specs::Answers::and_then))]
+fn name_in(alloc: Global, place: Place, name: &Name, scope: &Scope) -> Result<Expr, ElabFault>
+    ensures { Answers (λ e. e) result (put_in (frames_of scope.now) (expr.Name place name.now)) }
+{
+    let meaning = meant(alloc, place, name.as_slice(), scope)?;
+    named(alloc, place, meaning)
+}
+
 /// An expression in a scope: each signal under its printed name, and a number in the place of each constant.
 ///
 /// # Errors
@@ -162,55 +171,131 @@ pub fn put_in(alloc: Global, e: &Expr, scope: &Scope) -> Result<Expr, ElabFault>
     ensures { Answers (λ e. e) result (put_in (frames_of scope.now) e.now) }
 {
     match e {
-        Expr::Number(place, n) => Ok(number(alloc, *place, n.get())?),
-        Expr::Name(place, name) => {
-            let meaning = meant(alloc, *place, name.as_slice(), scope)?;
-            named(alloc, *place, meaning)
-        }
-        Expr::Index(place, name, index) => {
-            let meaning = meant(alloc, *place, name.as_slice(), scope)?;
-            let index = put_in(alloc, index.get(), scope)?;
-            indexed(alloc, *place, meaning, index)
-        }
+        Expr::Number(place, n) => number(alloc, *place, n.get()),
+        Expr::Name(place, name) => name_in(alloc, *place, name, scope),
+        Expr::Index(place, name, index) => index_in(alloc, *place, name, index.get(), scope),
         Expr::Select(part, place, name, first, second) => {
-            let meaning = meant(alloc, *place, name.as_slice(), scope)?;
-            let first = put_in(alloc, first.get(), scope)?;
-            let second = put_in(alloc, second.get(), scope)?;
-            selected(alloc, *place, meaning, *part, first, second)
+            let (first, second) = (first.get(), second.get());
+            select_in(alloc, *place, name, *part, first, second, scope)
         }
         Expr::Brackets(place, inner) => {
             let inner = put_in(alloc, inner.get(), scope)?;
-            Ok(brackets(alloc, *place, inner)?)
+            brackets(alloc, *place, inner)
         }
         Expr::Concat(place, members) => {
             let members = all_put_in(alloc, members.as_slice(), scope)?;
             Ok(Expr::Concat(*place, members))
         }
         Expr::Repeat(place, count, members) => {
-            let count = put_in(alloc, count.get(), scope)?;
-            let members = all_put_in(alloc, members.as_slice(), scope)?;
-            Ok(repeat(alloc, *place, count, members)?)
+            repeat_in(alloc, *place, count.get(), members.as_slice(), scope)
         }
         Expr::Unary(place, op, inner) => {
             let inner = put_in(alloc, inner.get(), scope)?;
-            Ok(unary(alloc, *place, *op, inner)?)
+            unary(alloc, *place, *op, inner)
         }
         Expr::Binary(place, op, left, right) => {
-            let left = put_in(alloc, left.get(), scope)?;
-            let right = put_in(alloc, right.get(), scope)?;
-            Ok(binary(alloc, *place, *op, left, right)?)
+            binary_in(alloc, *place, *op, left.get(), right.get(), scope)
         }
         Expr::Conditional(place, test, left, right) => {
-            let test = put_in(alloc, test.get(), scope)?;
-            let left = put_in(alloc, left.get(), scope)?;
-            let right = put_in(alloc, right.get(), scope)?;
-            Ok(conditional(alloc, *place, test, left, right)?)
+            conditional_in(alloc, *place, test.get(), left.get(), right.get(), scope)
         }
     }
 }
 
+/// `name[index]` in a scope.
+#[cycle(parts)]
+#[tactic(auto, using(crate::proofs::PutForms::forms), unfolding(crate::specs::Answers::and_then))]
+fn index_in(
+    alloc: Global,
+    place: Place,
+    name: &Name,
+    index: &Expr,
+    scope: &Scope,
+) -> Result<Expr, ElabFault>
+    ensures { Answers (λ e. e) result (put_in (frames_of scope.now) (expr.Index place name.now index.now)) }
+{
+    let meaning = meant(alloc, place, name.as_slice(), scope)?;
+    let index = put_in(alloc, index, scope)?;
+    indexed(alloc, place, meaning, index)
+}
+
+/// `name[first : second]` and its like in a scope.
+#[cycle(parts)]
+#[tactic(auto, using(crate::proofs::PutForms::forms), unfolding(crate::specs::Answers::and_then))]
+fn select_in(
+    alloc: Global,
+    place: Place,
+    name: &Name,
+    part: Part,
+    first: &Expr,
+    second: &Expr,
+    scope: &Scope,
+) -> Result<Expr, ElabFault>
+    ensures { Answers (λ e. e) result (put_in (frames_of scope.now) (expr.Select part place name.now first.now second.now)) }
+{
+    let meaning = meant(alloc, place, name.as_slice(), scope)?;
+    let first = put_in(alloc, first, scope)?;
+    let second = put_in(alloc, second, scope)?;
+    selected(alloc, place, meaning, part, first, second)
+}
+
+/// Copies of members in a scope.
+#[cycle(parts)]
+#[tactic(auto, using(crate::proofs::PutForms::forms), unfolding(crate::specs::Answers::and_then))]
+fn repeat_in(
+    alloc: Global,
+    place: Place,
+    count: &Expr,
+    members: &[Expr],
+    scope: &Scope,
+) -> Result<Expr, ElabFault>
+    ensures { Answers (λ e. e) result (put_in (frames_of scope.now) (expr.Repeat place count.now members.now)) }
+{
+    let count = put_in(alloc, count, scope)?;
+    let members = all_put_in(alloc, members, scope)?;
+    Ok(repeat(alloc, place, count, members)?)
+}
+
+/// An operator between its operands in a scope.
+#[cycle(parts)]
+#[tactic(auto, using(crate::proofs::PutForms::forms), unfolding(crate::specs::Answers::and_then))]
+fn binary_in(
+    alloc: Global,
+    place: Place,
+    op: Binary,
+    left: &Expr,
+    right: &Expr,
+    scope: &Scope,
+) -> Result<Expr, ElabFault>
+    ensures { Answers (λ e. e) result (put_in (frames_of scope.now) (expr.Binary place op left.now right.now)) }
+{
+    let left = put_in(alloc, left, scope)?;
+    let right = put_in(alloc, right, scope)?;
+    Ok(binary(alloc, place, op, left, right)?)
+}
+
+/// `test ? left : right` in a scope.
+#[cycle(parts)]
+#[tactic(auto, using(crate::proofs::PutForms::forms), unfolding(crate::specs::Answers::and_then))]
+fn conditional_in(
+    alloc: Global,
+    place: Place,
+    test: &Expr,
+    left: &Expr,
+    right: &Expr,
+    scope: &Scope,
+) -> Result<Expr, ElabFault>
+    ensures { Answers (λ e. e) result (put_in (frames_of scope.now) (expr.Conditional place test.now left.now right.now)) }
+{
+    let test = put_in(alloc, test, scope)?;
+    let left = put_in(alloc, left, scope)?;
+    let right = put_in(alloc, right, scope)?;
+    Ok(conditional(alloc, place, test, left, right)?)
+}
+
 /// Expressions in a scope.
 #[cycle(parts)]
+#[tactic(auto, using(crate::proofs::Lists::gathers))]
 pub(crate) fn all_put_in(
     alloc: Global,
     members: &[Expr],
@@ -220,13 +305,12 @@ pub(crate) fn all_put_in(
 {
     let mut out = Items::from_vec(Vec::with_capacity(alloc, members.len())?);
     for member in members {
-        let member = match put_in(alloc, member, scope) {
-            Ok(member) => member,
+        match put_in(alloc, member, scope) {
+            Ok(member) => match out.push(member) {
+                Ok(()) => {}
+                Err(_) => return Err(ElabFault::Memory),
+            },
             Err(fault) => return Err(fault),
-        };
-        match out.push(member) {
-            Ok(()) => {}
-            Err(_) => return Err(ElabFault::Memory),
         }
     }
     Ok(out)

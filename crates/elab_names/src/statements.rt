@@ -14,7 +14,7 @@ use crate::targets::target_in;
 use rdc_outside::Place;
 use sqlite_items::{Boxed, Items};
 use std::alloc::{AllocError, Global};
-use vlog_tree::{Arm, Expr, Ident, Loop, Name, Stmt};
+use vlog_tree::{Arm, Assigns, Expr, Ident, Loop, Matching, Name, Stmt};
 
 /// A variable of a loop.
 #[tactic(auto, unfolding(crate::specs::Statements::counter_in, crate::specs::Answers::and_then))]
@@ -100,6 +100,23 @@ fn arm(
     })
 }
 
+/// An assignment in a scope.
+#[tactic(auto, using(crate::proofs::StatementForms::forms), unfolding(crate::specs::Answers::and_then))]
+fn assign_in(
+    alloc: Global,
+    place: Place,
+    target: &Expr,
+    by: Assigns,
+    value: &Expr,
+    scope: &Scope,
+) -> Result<Stmt, ElabFault>
+    ensures { Answers (λ s. s) result (statement_in (frames_of scope.now) (stmt.Assign place target.now by value.now)) }
+{
+    let target = target_in(alloc, target, scope)?;
+    let value = put_in(alloc, value, scope)?;
+    Ok(Stmt::Assign(place, target, by, value))
+}
+
 /// A statement in a scope: names as they are printed, numbers in the place of constants, and no block's name.
 ///
 /// # Errors
@@ -117,27 +134,68 @@ pub fn statement_in(alloc: Global, s: &Stmt, scope: &Scope) -> Result<Stmt, Elab
             Ok(Stmt::Block(*place, None, inner))
         }
         Stmt::Assign(place, target, by, value) => {
-            let target = target_in(alloc, target, scope)?;
-            let value = put_in(alloc, value, scope)?;
-            Ok(Stmt::Assign(*place, target, *by, value))
+            assign_in(alloc, *place, target, *by, value, scope)
         }
-        Stmt::If(place, test, yes, no) => {
-            let test = put_in(alloc, test, scope)?;
-            let yes = statement_in(alloc, yes.get(), scope)?;
-            let no = else_in(alloc, no, scope)?;
-            Ok(branch(alloc, *place, test, yes, no)?)
-        }
+        Stmt::If(place, test, yes, no) => branch_in(alloc, *place, test, yes.get(), no, scope),
         Stmt::Case(place, matching, selector, arms) => {
-            let selector = put_in(alloc, selector, scope)?;
-            let arms = arms_in(alloc, arms.as_slice(), scope)?;
-            Ok(Stmt::Case(*place, *matching, selector, arms))
+            case_in(alloc, *place, *matching, selector, arms.as_slice(), scope)
         }
-        Stmt::For(place, header, body) => {
-            let header = loop_in(alloc, header, scope)?;
-            let body = statement_in(alloc, body.get(), scope)?;
-            Ok(repeated(alloc, *place, header, body)?)
-        }
+        Stmt::For(place, header, body) => for_in(alloc, *place, header, body.get(), scope),
     }
+}
+
+/// `if` in a scope.
+#[cycle(statements)]
+#[tactic(auto, using(crate::proofs::StatementForms::forms), unfolding(crate::specs::Answers::and_then))]
+fn branch_in(
+    alloc: Global,
+    place: Place,
+    test: &Expr,
+    yes: &Stmt,
+    no: &Option<Boxed<Stmt>>,
+    scope: &Scope,
+) -> Result<Stmt, ElabFault>
+    ensures { Answers (λ s. s) result (statement_in (frames_of scope.now) (stmt.If place test.now yes.now no.now)) }
+{
+    let test = put_in(alloc, test, scope)?;
+    let yes = statement_in(alloc, yes, scope)?;
+    let no = else_in(alloc, no, scope)?;
+    Ok(branch(alloc, place, test, yes, no)?)
+}
+
+/// `case` in a scope.
+#[cycle(statements)]
+#[tactic(auto, using(crate::proofs::StatementForms::forms), unfolding(crate::specs::Answers::and_then))]
+fn case_in(
+    alloc: Global,
+    place: Place,
+    matching: Matching,
+    selector: &Expr,
+    arms: &[Arm<Boxed<Stmt>>],
+    scope: &Scope,
+) -> Result<Stmt, ElabFault>
+    ensures { Answers (λ s. s) result (statement_in (frames_of scope.now) (stmt.Case place matching selector.now arms.now)) }
+{
+    let selector = put_in(alloc, selector, scope)?;
+    let arms = arms_in(alloc, arms, scope)?;
+    Ok(Stmt::Case(place, matching, selector, arms))
+}
+
+/// `for` in a scope.
+#[cycle(statements)]
+#[tactic(auto, using(crate::proofs::StatementForms::forms), unfolding(crate::specs::Answers::and_then))]
+fn for_in(
+    alloc: Global,
+    place: Place,
+    header: &Loop,
+    body: &Stmt,
+    scope: &Scope,
+) -> Result<Stmt, ElabFault>
+    ensures { Answers (λ s. s) result (statement_in (frames_of scope.now) (stmt.For place header.now body.now)) }
+{
+    let header = loop_in(alloc, header, scope)?;
+    let body = statement_in(alloc, body, scope)?;
+    Ok(repeated(alloc, place, header, body)?)
 }
 
 /// What stands behind `else`, if anything does.
@@ -161,18 +219,18 @@ fn else_in(
 
 /// The statements of a block.
 #[cycle(statements)]
+#[tactic(auto, using(crate::proofs::Lists::gathers))]
 fn statements_in(alloc: Global, inner: &[Stmt], scope: &Scope) -> Result<Items<Stmt>, ElabFault>
     ensures { Answers (λ ss. ss) result (gathered (map (statement_in (frames_of scope.now)) inner.now)) }
 {
     let mut out = Items::from_vec(Vec::with_capacity(alloc, inner.len())?);
     for s in inner {
-        let s = match statement_in(alloc, s, scope) {
-            Ok(s) => s,
+        match statement_in(alloc, s, scope) {
+            Ok(s) => match out.push(s) {
+                Ok(()) => {}
+                Err(_) => return Err(ElabFault::Memory),
+            },
             Err(fault) => return Err(fault),
-        };
-        match out.push(s) {
-            Ok(()) => {}
-            Err(_) => return Err(ElabFault::Memory),
         }
     }
     Ok(out)
@@ -195,6 +253,7 @@ fn arm_in(
 
 /// The items of a `case`.
 #[cycle(statements)]
+#[tactic(auto, using(crate::proofs::Lists::gathers))]
 fn arms_in(
     alloc: Global,
     items: &[Arm<Boxed<Stmt>>],
@@ -204,13 +263,12 @@ fn arms_in(
 {
     let mut out = Items::from_vec(Vec::with_capacity(alloc, items.len())?);
     for item in items {
-        let item = match arm_in(alloc, item, scope) {
-            Ok(item) => item,
+        match arm_in(alloc, item, scope) {
+            Ok(item) => match out.push(item) {
+                Ok(()) => {}
+                Err(_) => return Err(ElabFault::Memory),
+            },
             Err(fault) => return Err(fault),
-        };
-        match out.push(item) {
-            Ok(()) => {}
-            Err(_) => return Err(ElabFault::Memory),
         }
     }
     Ok(out)

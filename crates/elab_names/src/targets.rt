@@ -13,7 +13,7 @@ use crate::scope::Scope;
 use rdc_outside::Place;
 use sqlite_items::{Boxed, Items};
 use std::alloc::{AllocError, Global};
-use vlog_tree::{Expr, Name};
+use vlog_tree::{Expr, Name, Part};
 
 /// The printed name of the signal that a name means.
 #[tactic(auto, unfolding(crate::specs::Targets::printed, crate::specs::Answers::and_then))]
@@ -31,6 +31,41 @@ fn index(alloc: Global, place: Place, name: Name, index: Expr) -> Result<Expr, A
     Ok(Expr::Index(place, name, Boxed::new(alloc, index)?))
 }
 
+/// `name[index]` as a target.
+#[tactic(auto, using(crate::proofs::TargetForms::forms), unfolding(crate::specs::Answers::and_then))]
+fn index_in(
+    alloc: Global,
+    place: Place,
+    name: &Name,
+    at: &Expr,
+    scope: &Scope,
+) -> Result<Expr, ElabFault>
+    ensures { Answers (λ e. e) result (target_in (frames_of scope.now) (expr.Index place name.now at.now)) }
+{
+    let name = printed(alloc, place, name.as_slice(), scope)?;
+    let at = put_in(alloc, at, scope)?;
+    Ok(index(alloc, place, name, at)?)
+}
+
+/// `name[first : second]` and its like as a target.
+#[tactic(auto, using(crate::proofs::TargetForms::forms), unfolding(crate::specs::Answers::and_then))]
+fn select_in(
+    alloc: Global,
+    place: Place,
+    name: &Name,
+    part: Part,
+    first: &Expr,
+    second: &Expr,
+    scope: &Scope,
+) -> Result<Expr, ElabFault>
+    ensures { Answers (λ e. e) result (target_in (frames_of scope.now) (expr.Select part place name.now first.now second.now)) }
+{
+    let name = printed(alloc, place, name.as_slice(), scope)?;
+    let first = put_in(alloc, first, scope)?;
+    let second = put_in(alloc, second, scope)?;
+    Ok(select(alloc, place, name, part, first, second)?)
+}
+
 /// What is assigned, in a scope: a signal, a select of one, or a concatenation of these, each under its printed name.
 ///
 /// # Errors
@@ -46,16 +81,10 @@ pub fn target_in(alloc: Global, e: &Expr, scope: &Scope) -> Result<Expr, ElabFau
             let name = printed(alloc, *place, name.as_slice(), scope)?;
             Ok(Expr::Name(*place, name))
         }
-        Expr::Index(place, name, at) => {
-            let name = printed(alloc, *place, name.as_slice(), scope)?;
-            let at = put_in(alloc, at.get(), scope)?;
-            Ok(index(alloc, *place, name, at)?)
-        }
+        Expr::Index(place, name, at) => index_in(alloc, *place, name, at.get(), scope),
         Expr::Select(part, place, name, first, second) => {
-            let name = printed(alloc, *place, name.as_slice(), scope)?;
-            let first = put_in(alloc, first.get(), scope)?;
-            let second = put_in(alloc, second.get(), scope)?;
-            Ok(select(alloc, *place, name, *part, first, second)?)
+            let (first, second) = (first.get(), second.get());
+            select_in(alloc, *place, name, *part, first, second, scope)
         }
         Expr::Concat(place, members) => {
             let members = targets_in(alloc, members.as_slice(), scope)?;
@@ -72,18 +101,18 @@ pub fn target_in(alloc: Global, e: &Expr, scope: &Scope) -> Result<Expr, ElabFau
 
 /// The members of a concatenation that is assigned.
 #[cycle(targets)]
+#[tactic(auto, using(crate::proofs::Lists::gathers))]
 fn targets_in(alloc: Global, members: &[Expr], scope: &Scope) -> Result<Items<Expr>, ElabFault>
     ensures { Answers (λ es. es) result (gathered (map (target_in (frames_of scope.now)) members.now)) }
 {
     let mut out = Items::from_vec(Vec::with_capacity(alloc, members.len())?);
     for member in members {
-        let member = match target_in(alloc, member, scope) {
-            Ok(member) => member,
+        match target_in(alloc, member, scope) {
+            Ok(member) => match out.push(member) {
+                Ok(()) => {}
+                Err(_) => return Err(ElabFault::Memory),
+            },
             Err(fault) => return Err(fault),
-        };
-        match out.push(member) {
-            Ok(()) => {}
-            Err(_) => return Err(ElabFault::Memory),
         }
     }
     Ok(out)
