@@ -114,10 +114,14 @@ err_step r g fault h = ap (λ q. w.and_then q g) h
 
 -- ---- parts of a constant
 
+-- a part of a constant, between two numbers
+abbrev reach : Place → ConstValue → Part → Whole → Whole → w.Or_fault Worth
+reach place v how i j = w.and_then (narrow place (part_width how i j)) (λ n. Ok (w.fixed place (unsigned n) (window v.bits (part_start how i j) n)))
+
 -- a part that a constant has, between numbers that are not below 0
 part_worth : (place : Place) (v : ConstValue) (how : Part) (i j : ℕ) → v.width ≤ 128 → fits how v.width i j ≡ true
-    → worth no_values (as_number place (piece v (start_of how i j) (count_of how i j))) ≡ select_worth place v how (record { negative = false; magnitude = i }) (record { negative = false; magnitude = j })
-unfolding fits start_of count_of select_worth part_width part_start span lowered window
+    → worth no_values (as_number place (piece v (start_of how i j) (count_of how i j))) ≡ reach place v how (record { negative = false; magnitude = i }) (record { negative = false; magnitude = j })
+unfolding fits start_of count_of part_width part_start span lowered window
 part_worth place v Fixed i j few has =
     let parts = both (nat_le j i) (nat_lt i v.width) has in
     let under : i < v.width = less i v.width parts.1 in
@@ -150,7 +154,7 @@ part_worth place v Down i j few has =
 upward : (a : Whole) → a.negative ≡ false → a ≡ record { negative = false; magnitude = a.magnitude }
 upward a h = ap (λ (t : Bool). let q : Whole = record { negative = t; magnitude = a.magnitude } in q) h
 
-part_of_worth : (place : Place) (v : ConstValue) (how : Part) (i j : Whole) (p : ConstValue) → v.width ≤ 128 → part_of place v how i j ≡ Ok p → worth no_values (as_number place p) ≡ select_worth place v how i j
+part_of_worth : (place : Place) (v : ConstValue) (how : Part) (i j : Whole) (p : ConstValue) → v.width ≤ 128 → part_of place v how i j ≡ Ok p → worth no_values (as_number place p) ≡ reach place v how i j
 unfolding part_of
 part_of_worth place v how i j p few is =
     let guard = unless ((i.negative || j.negative) || not (fits how v.width i.magnitude j.magnitude)) _ _ p is (λ y h. cc) in
@@ -159,8 +163,8 @@ part_of_worth place v how i j p few is =
     let same = same_answer (Ok (piece v (start_of how i.magnitude j.magnitude) (count_of how i.magnitude j.magnitude))) _ p refl guard.1 in
     ap (λ (x : ConstValue). worth no_values (as_number place x)) (sym same)
     ∙ part_worth place v how i.magnitude j.magnitude few (negated_is (fits how v.width i.magnitude j.magnitude) tests.1)
-    ∙ ap (λ (x : Whole). select_worth place v how x (record { negative = false; magnitude = j.magnitude })) (sym (upward i signs.0))
-    ∙ ap (λ (y : Whole). select_worth place v how i y) (sym (upward j signs.1))
+    ∙ ap (λ (x : Whole). reach place v how x (record { negative = false; magnitude = j.magnitude })) (sym (upward i signs.0))
+    ∙ ap (λ (y : Whole). reach place v how i y) (sym (upward j signs.1))
 
 bit_worth : (place : Place) (v : ConstValue) (i : Whole) (start : ℕ) → position place v.width i ≡ Ok start → worth no_values (as_number place (piece v start 1)) ≡ Ok (w.fixed place (unsigned 1) (window v.bits i 1))
 unfolding position window
@@ -201,7 +205,7 @@ module _ (frames : Frames) (hold : HoldValues frames) where
 
   -- of name [ i ]
   bit_case : (place : Place) (name : List ℕ) (m : So) (x : Expr) (v : ConstValue) → found frames name ≡ Some (Constant v) → and_then (put_in frames m.0) (bit_in place v) ≡ Ok x → worth no_values x ≡ worth values (Index place name m.0)
-  unfolding bit_in value_of constant_of
+  unfolding bit_in value_of constant_of index_worth worth
   bit_case place name m x v e h =
       let last : ConstValue → w.Or_fault Worth = λ at. Ok (index_worth place v at) in
       let first = first_step (put_in frames m.0) (bit_in place v) x h in
@@ -234,7 +238,7 @@ module _ (frames : Frames) (hold : HoldValues frames) where
   -- of name [ i : j ] and its like
   piece_case : (place : Place) (name : List ℕ) (how : Part) (i j : So) (x : Expr) (v : ConstValue) → found frames name ≡ Some (Constant v)
       → and_then (put_in frames i.0) (λ a. and_then (put_in frames j.0) (part_in place v how a)) ≡ Ok x → worth no_values x ≡ worth values (Select how place name i.0 j.0)
-  unfolding part_in value_of constant_of
+  unfolding part_in value_of constant_of select_worth
   piece_case place name how i j x v e h =
       let all : ConstValue → ConstValue → ConstValue → w.Or_fault Worth = λ q m n. select_worth place q how m n in
       let first = first_step (put_in frames i.0) (λ a. and_then (put_in frames j.0) (part_in place v how a)) x h in

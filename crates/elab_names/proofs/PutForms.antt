@@ -1,5 +1,5 @@
 -- What each form of expression is in a scope.
-use Rattle.std.proofs.Common.{◌≡◌, ℕ, List, map, Ok, Err, sym, ap, ◌∙◌}
+use Rattle.std.proofs.Common.{◌≡◌, ℕ, List, map, Ok, Err, sym, ap, subst, ◌∙◌}
 use Rattle.rdc_outside.specs.declared.source.Place.{Place}
 use Rattle.vlog_tree.specs.declared.expr.Expr.{Expr, fold-roll-Expr}
 use Rattle.vlog_tree.specs.declared.expr.Expr.TheOpen.{Expr-F}
@@ -8,7 +8,7 @@ use Rattle.vlog_tree.specs.declared.expr.Part.{Part}
 use Rattle.vlog_tree.specs.declared.number.Number as n
 use Rattle.vlog_tree.specs.declared.operator.Unary as u
 use Rattle.vlog_tree.specs.declared.operator.Binary as b
-use Rattle.elab_names.specs.Answers.{Or_fault, and_then, gathered}
+use Rattle.elab_names.specs.Answers.{Answers, Or_fault, and_then, gathered}
 use Rattle.elab_names.specs.Meanings.{Frames, found}
 use Rattle.elab_names.specs.Expressions.{meant, named, indexed, selected, put_in, put_by_parts}
 
@@ -51,6 +51,33 @@ put-Binary frames place op x y = ap (put_in frames) (sym (rolls-Binary place op 
 pub put-Conditional : (frames : Frames) (place : Place) (test x y : Expr) → put_in frames (Conditional place test x y) ≡ and_then (put_in frames test) (λ t. and_then (put_in frames x) (λ p. and_then (put_in frames y) (λ q. Ok (Conditional place t p q))))
 unfolding put_in put_by_parts
 put-Conditional frames place test x y = ap (put_in frames) (sym (rolls-Conditional place test x y)) ∙ fold-roll-Expr (Or_fault Expr) (put_by_parts frames) (Expr-F.Conditional place test x y)
+
+-- ---- what is answered for the parts is answered for the whole
+
+pub answers-Select : (frames : Frames) (e x y a c : Expr) (how : Part) (place : Place) (name : List ℕ) (r : Or_fault Expr) → e ≡ Select how place name x y → a ≡ x → c ≡ y
+    → Answers (λ z. z) r (and_then (meant place name (found frames name)) (λ m. and_then (put_in frames a) (λ i. and_then (put_in frames c) (selected place m how i)))) → Answers (λ z. z) r (put_in frames e)
+answers-Select frames e x y a c how place name r is left right answer =
+    subst (λ (w : Or_fault Expr). Answers (λ z. z) r w)
+    (sym (put-Select frames how place name a c) ∙ ap (put_in frames) (ap (λ (p : Expr). Select how place name p c) left ∙ ap (λ (q : Expr). Select how place name x q) right ∙ sym is)) answer
+
+pub answers-Repeat : (frames : Frames) (e k n : Expr) (ms es : List Expr) (place : Place) (r : Or_fault Expr) → e ≡ Repeat place k es → n ≡ k → ms ≡ es
+    → Answers (λ z. z) r (and_then (put_in frames n) (λ p. and_then (gathered (map (put_in frames) ms)) (λ q. Ok (Repeat place p q)))) → Answers (λ z. z) r (put_in frames e)
+answers-Repeat frames e k n ms es place r is left right answer =
+    subst (λ (w : Or_fault Expr). Answers (λ z. z) r w)
+    (sym (put-Repeat frames place n ms) ∙ ap (put_in frames) (ap (λ (p : Expr). Repeat place p ms) left ∙ ap (λ (q : List Expr). Repeat place k q) right ∙ sym is)) answer
+
+pub answers-Binary : (frames : Frames) (e x y a c : Expr) (place : Place) (op : b.Binary) (r : Or_fault Expr) → e ≡ Binary place op x y → a ≡ x → c ≡ y
+    → Answers (λ z. z) r (and_then (put_in frames a) (λ p. and_then (put_in frames c) (λ q. Ok (Binary place op p q)))) → Answers (λ z. z) r (put_in frames e)
+answers-Binary frames e x y a c place op r is left right answer =
+    subst (λ (w : Or_fault Expr). Answers (λ z. z) r w)
+    (sym (put-Binary frames place op a c) ∙ ap (put_in frames) (ap (λ (p : Expr). Binary place op p c) left ∙ ap (λ (q : Expr). Binary place op x q) right ∙ sym is)) answer
+
+pub answers-Conditional : (frames : Frames) (e t x y o a c : Expr) (place : Place) (r : Or_fault Expr) → e ≡ Conditional place t x y → o ≡ t → a ≡ x → c ≡ y
+    → Answers (λ z. z) r (and_then (put_in frames o) (λ s. and_then (put_in frames a) (λ p. and_then (put_in frames c) (λ q. Ok (Conditional place s p q))))) → Answers (λ z. z) r (put_in frames e)
+answers-Conditional frames e t x y o a c place r is test left right answer =
+    subst (λ (w : Or_fault Expr). Answers (λ z. z) r w)
+    (sym (put-Conditional frames place o a c)
+    ∙ ap (put_in frames) (ap (λ (s : Expr). Conditional place s a c) test ∙ ap (λ (p : Expr). Conditional place t p c) left ∙ ap (λ (q : Expr). Conditional place t x q) right ∙ sym is)) answer
 
 -- each form of expression, for tactics
 pub ruleset forms = (put-Number, put-Name, put-Index, put-Select, put-Brackets, put-Concat, put-Repeat, put-Unary, put-Binary, put-Conditional)

@@ -1,9 +1,10 @@
 //! Expressions in a scope, and what constant ones are worth.
-ghost use Rattle.std.specs.Prelude.{◌≡◌, ◌≤◌, map, IfOk, Ok};
+ghost use Rattle.std.specs.Prelude.{◌≡◌, ◌≤◌, List, map, IfOk, Ok};
+ghost use Rattle.vlog_tree.specs.declared.expr.Expr.{Expr};
 ghost use Rattle.vlog_tree.specs.declared.expr.Expr.TheVariants as expr;
 ghost use Rattle.vlog_const.specs.Names.{no_values};
 ghost use Rattle.vlog_const.specs.Constants.{value_within};
-ghost use Rattle.elab_names.specs.Answers.{Answers, gathered, lifted};
+ghost use Rattle.elab_names.specs.Answers.{Answers, Or_fault, and_then, gathered, lifted};
 ghost use Rattle.elab_names.specs.Expressions.{constant, constant_within, indexed, meant, named, put_in, selected};
 ghost use Rattle.elab_names.specs.Meanings.{found, frames_of};
 
@@ -159,6 +160,73 @@ fn name_in(alloc: Global, place: Place, name: &Name, scope: &Scope) -> Result<Ex
     named(alloc, place, meaning)
 }
 
+/// A select of a name, of which what stands in its brackets was put in.
+#[tactic(auto, unfolding(crate::specs::Answers::and_then))]
+fn select_of(
+    alloc: Global,
+    place: Place,
+    name: &Name,
+    part: Part,
+    first: Result<Expr, ElabFault>,
+    second: Result<Expr, ElabFault>,
+    scope: &Scope,
+) -> Result<Expr, ElabFault>
+    ensures { (a b : Or_fault Expr) → Answers (λ e. e) first a → Answers (λ e. e) second b → Answers (λ e. e) result (and_then (meant place name.now (found (frames_of scope.now) name.now)) (λ m. and_then a (λ i. and_then b (selected place m part i)))) }
+{
+    let meaning = meant(alloc, place, name.as_slice(), scope)?;
+    let first = first?;
+    let second = second?;
+    selected(alloc, place, meaning, part, first, second)
+}
+
+/// Copies of members, of which both were put in.
+#[tactic(auto, unfolding(crate::specs::Answers::and_then))]
+fn repeat_of(
+    alloc: Global,
+    place: Place,
+    count: Result<Expr, ElabFault>,
+    members: Result<Items<Expr>, ElabFault>,
+) -> Result<Expr, ElabFault>
+    ensures { (a : Or_fault Expr) (es : Or_fault (List Expr)) → Answers (λ e. e) count a → Answers (λ e. e) members es → Answers (λ e. e) result (and_then a (λ n. and_then es (λ xs. Ok (expr.Repeat place n xs)))) }
+{
+    let count = count?;
+    let members = members?;
+    Ok(repeat(alloc, place, count, members)?)
+}
+
+/// An operator between its operands, which were put in.
+#[tactic(auto, unfolding(crate::specs::Answers::and_then))]
+fn binary_of(
+    alloc: Global,
+    place: Place,
+    op: Binary,
+    left: Result<Expr, ElabFault>,
+    right: Result<Expr, ElabFault>,
+) -> Result<Expr, ElabFault>
+    ensures { (a b : Or_fault Expr) → Answers (λ e. e) left a → Answers (λ e. e) right b → Answers (λ e. e) result (and_then a (λ p. and_then b (λ q. Ok (expr.Binary place op p q)))) }
+{
+    let left = left?;
+    let right = right?;
+    Ok(binary(alloc, place, op, left, right)?)
+}
+
+/// `test ? left : right`, of which all were put in.
+#[tactic(auto, unfolding(crate::specs::Answers::and_then))]
+fn conditional_of(
+    alloc: Global,
+    place: Place,
+    test: Result<Expr, ElabFault>,
+    left: Result<Expr, ElabFault>,
+    right: Result<Expr, ElabFault>,
+) -> Result<Expr, ElabFault>
+    ensures { (t a b : Or_fault Expr) → Answers (λ e. e) test t → Answers (λ e. e) left a → Answers (λ e. e) right b → Answers (λ e. e) result (and_then t (λ o. and_then a (λ p. and_then b (λ q. Ok (expr.Conditional place o p q))))) }
+{
+    let test = test?;
+    let left = left?;
+    let right = right?;
+    Ok(conditional(alloc, place, test, left, right)?)
+}
+
 /// An expression in a scope: each signal under its printed name, and a number in the place of each constant.
 ///
 /// # Errors
@@ -173,10 +241,15 @@ pub fn put_in(alloc: Global, e: &Expr, scope: &Scope) -> Result<Expr, ElabFault>
     match e {
         Expr::Number(place, n) => number(alloc, *place, n.get()),
         Expr::Name(place, name) => name_in(alloc, *place, name, scope),
-        Expr::Index(place, name, index) => index_in(alloc, *place, name, index.get(), scope),
+        Expr::Index(place, name, index) => {
+            let meaning = meant(alloc, *place, name.as_slice(), scope)?;
+            let index = put_in(alloc, index.get(), scope)?;
+            indexed(alloc, *place, meaning, index)
+        }
         Expr::Select(part, place, name, first, second) => {
-            let (first, second) = (first.get(), second.get());
-            select_in(alloc, *place, name, *part, first, second, scope)
+            let first = put_in(alloc, first.get(), scope);
+            let second = put_in(alloc, second.get(), scope);
+            select_of(alloc, *place, name, *part, first, second, scope)
         }
         Expr::Brackets(place, inner) => {
             let inner = put_in(alloc, inner.get(), scope)?;
@@ -187,115 +260,30 @@ pub fn put_in(alloc: Global, e: &Expr, scope: &Scope) -> Result<Expr, ElabFault>
             Ok(Expr::Concat(*place, members))
         }
         Expr::Repeat(place, count, members) => {
-            repeat_in(alloc, *place, count.get(), members.as_slice(), scope)
+            let count = put_in(alloc, count.get(), scope);
+            let members = all_put_in(alloc, members.as_slice(), scope);
+            repeat_of(alloc, *place, count, members)
         }
         Expr::Unary(place, op, inner) => {
             let inner = put_in(alloc, inner.get(), scope)?;
             unary(alloc, *place, *op, inner)
         }
         Expr::Binary(place, op, left, right) => {
-            binary_in(alloc, *place, *op, left.get(), right.get(), scope)
+            let left = put_in(alloc, left.get(), scope);
+            let right = put_in(alloc, right.get(), scope);
+            binary_of(alloc, *place, *op, left, right)
         }
         Expr::Conditional(place, test, left, right) => {
-            conditional_in(alloc, *place, test.get(), left.get(), right.get(), scope)
+            let test = put_in(alloc, test.get(), scope);
+            let left = put_in(alloc, left.get(), scope);
+            let right = put_in(alloc, right.get(), scope);
+            conditional_of(alloc, *place, test, left, right)
         }
     }
 }
 
-/// `name[index]` in a scope.
-#[cycle(parts)]
-#[tactic(auto, using(crate::proofs::PutForms::forms), unfolding(crate::specs::Answers::and_then))]
-fn index_in(
-    alloc: Global,
-    place: Place,
-    name: &Name,
-    index: &Expr,
-    scope: &Scope,
-) -> Result<Expr, ElabFault>
-    ensures { Answers (λ e. e) result (put_in (frames_of scope.now) (expr.Index place name.now index.now)) }
-{
-    let meaning = meant(alloc, place, name.as_slice(), scope)?;
-    let index = put_in(alloc, index, scope)?;
-    indexed(alloc, place, meaning, index)
-}
-
-/// `name[first : second]` and its like in a scope.
-#[cycle(parts)]
-#[tactic(auto, using(crate::proofs::PutForms::forms), unfolding(crate::specs::Answers::and_then))]
-fn select_in(
-    alloc: Global,
-    place: Place,
-    name: &Name,
-    part: Part,
-    first: &Expr,
-    second: &Expr,
-    scope: &Scope,
-) -> Result<Expr, ElabFault>
-    ensures { Answers (λ e. e) result (put_in (frames_of scope.now) (expr.Select part place name.now first.now second.now)) }
-{
-    let meaning = meant(alloc, place, name.as_slice(), scope)?;
-    let first = put_in(alloc, first, scope)?;
-    let second = put_in(alloc, second, scope)?;
-    selected(alloc, place, meaning, part, first, second)
-}
-
-/// Copies of members in a scope.
-#[cycle(parts)]
-#[tactic(auto, using(crate::proofs::PutForms::forms), unfolding(crate::specs::Answers::and_then))]
-fn repeat_in(
-    alloc: Global,
-    place: Place,
-    count: &Expr,
-    members: &[Expr],
-    scope: &Scope,
-) -> Result<Expr, ElabFault>
-    ensures { Answers (λ e. e) result (put_in (frames_of scope.now) (expr.Repeat place count.now members.now)) }
-{
-    let count = put_in(alloc, count, scope)?;
-    let members = all_put_in(alloc, members, scope)?;
-    Ok(repeat(alloc, place, count, members)?)
-}
-
-/// An operator between its operands in a scope.
-#[cycle(parts)]
-#[tactic(auto, using(crate::proofs::PutForms::forms), unfolding(crate::specs::Answers::and_then))]
-fn binary_in(
-    alloc: Global,
-    place: Place,
-    op: Binary,
-    left: &Expr,
-    right: &Expr,
-    scope: &Scope,
-) -> Result<Expr, ElabFault>
-    ensures { Answers (λ e. e) result (put_in (frames_of scope.now) (expr.Binary place op left.now right.now)) }
-{
-    let left = put_in(alloc, left, scope)?;
-    let right = put_in(alloc, right, scope)?;
-    Ok(binary(alloc, place, op, left, right)?)
-}
-
-/// `test ? left : right` in a scope.
-#[cycle(parts)]
-#[tactic(auto, using(crate::proofs::PutForms::forms), unfolding(crate::specs::Answers::and_then))]
-fn conditional_in(
-    alloc: Global,
-    place: Place,
-    test: &Expr,
-    left: &Expr,
-    right: &Expr,
-    scope: &Scope,
-) -> Result<Expr, ElabFault>
-    ensures { Answers (λ e. e) result (put_in (frames_of scope.now) (expr.Conditional place test.now left.now right.now)) }
-{
-    let test = put_in(alloc, test, scope)?;
-    let left = put_in(alloc, left, scope)?;
-    let right = put_in(alloc, right, scope)?;
-    Ok(conditional(alloc, place, test, left, right)?)
-}
-
 /// Expressions in a scope.
 #[cycle(parts)]
-#[tactic(auto, using(crate::proofs::Lists::gathers))]
 pub(crate) fn all_put_in(
     alloc: Global,
     members: &[Expr],

@@ -1,8 +1,12 @@
 //! Statements in a scope.
-ghost use Rattle.std.specs.Prelude.{◌≡◌, map, IfOk};
+ghost use Rattle.std.specs.Prelude.{◌≡◌, List, Option, map, IfOk, Ok};
+ghost use Rattle.vlog_tree.specs.declared.expr.Expr.{Expr};
+ghost use Rattle.vlog_tree.specs.declared.stmt.Arm.{Arm};
+ghost use Rattle.vlog_tree.specs.declared.stmt.Loop.{Loop};
+ghost use Rattle.vlog_tree.specs.declared.stmt.Stmt.{Stmt};
 ghost use Rattle.std.specs.Option.{option_map};
 ghost use Rattle.vlog_tree.specs.declared.stmt.Stmt.TheVariants as stmt;
-ghost use Rattle.elab_names.specs.Answers.{Answers, gathered, optional};
+ghost use Rattle.elab_names.specs.Answers.{Answers, Or_fault, and_then, gathered, optional};
 ghost use Rattle.elab_names.specs.Meanings.{frames_of};
 ghost use Rattle.elab_names.specs.Statements.{arm_with, counter_in, loop_in, statement_in};
 
@@ -117,6 +121,53 @@ fn assign_in(
     Ok(Stmt::Assign(place, target, by, value))
 }
 
+/// `if`, of which all parts were put in.
+#[tactic(auto, unfolding(crate::specs::Answers::and_then))]
+fn branch_of(
+    alloc: Global,
+    place: Place,
+    test: Result<Expr, ElabFault>,
+    yes: Result<Stmt, ElabFault>,
+    no: Result<Option<Boxed<Stmt>>, ElabFault>,
+) -> Result<Stmt, ElabFault>
+    ensures { (t : Or_fault Expr) (a : Or_fault Stmt) (b : Or_fault (Option Stmt)) → Answers (λ e. e) test t → Answers (λ s. s) yes a → Answers (λ o. o) no b → Answers (λ s. s) result (and_then t (λ o. and_then a (λ x. and_then b (λ y. Ok (stmt.If place o x y))))) }
+{
+    let test = test?;
+    let yes = yes?;
+    let no = no?;
+    Ok(branch(alloc, place, test, yes, no)?)
+}
+
+/// `case`, of which all parts were put in.
+#[tactic(auto, unfolding(crate::specs::Answers::and_then))]
+fn case_of(
+    place: Place,
+    matching: Matching,
+    selector: Result<Expr, ElabFault>,
+    arms: Result<Items<Arm<Boxed<Stmt>>>, ElabFault>,
+) -> Result<Stmt, ElabFault>
+    ensures { (s : Or_fault Expr) (r : Or_fault (List (Arm Stmt))) → Answers (λ e. e) selector s → Answers (λ a. a) arms r → Answers (λ s. s) result (and_then s (λ x. and_then r (λ xs. Ok (stmt.Case place matching x xs)))) }
+{
+    let selector = selector?;
+    let arms = arms?;
+    Ok(Stmt::Case(place, matching, selector, arms))
+}
+
+/// `for`, of which all parts were put in.
+#[tactic(auto, unfolding(crate::specs::Answers::and_then))]
+fn for_of(
+    alloc: Global,
+    place: Place,
+    header: Result<Loop, ElabFault>,
+    body: Result<Stmt, ElabFault>,
+) -> Result<Stmt, ElabFault>
+    ensures { (h : Or_fault Loop) (b : Or_fault Stmt) → Answers (λ l. l) header h → Answers (λ s. s) body b → Answers (λ s. s) result (and_then h (λ x. and_then b (λ y. Ok (stmt.For place x y)))) }
+{
+    let header = header?;
+    let body = body?;
+    Ok(repeated(alloc, place, header, body)?)
+}
+
 /// A statement in a scope: names as they are printed, numbers in the place of constants, and no block's name.
 ///
 /// # Errors
@@ -136,66 +187,23 @@ pub fn statement_in(alloc: Global, s: &Stmt, scope: &Scope) -> Result<Stmt, Elab
         Stmt::Assign(place, target, by, value) => {
             assign_in(alloc, *place, target, *by, value, scope)
         }
-        Stmt::If(place, test, yes, no) => branch_in(alloc, *place, test, yes.get(), no, scope),
-        Stmt::Case(place, matching, selector, arms) => {
-            case_in(alloc, *place, *matching, selector, arms.as_slice(), scope)
+        Stmt::If(place, test, yes, no) => {
+            let test = put_in(alloc, test, scope);
+            let yes = statement_in(alloc, yes.get(), scope);
+            let no = else_in(alloc, no, scope);
+            branch_of(alloc, *place, test, yes, no)
         }
-        Stmt::For(place, header, body) => for_in(alloc, *place, header, body.get(), scope),
+        Stmt::Case(place, matching, selector, arms) => {
+            let selector = put_in(alloc, selector, scope);
+            let arms = arms_in(alloc, arms.as_slice(), scope);
+            case_of(*place, *matching, selector, arms)
+        }
+        Stmt::For(place, header, body) => {
+            let header = loop_in(alloc, header, scope);
+            let body = statement_in(alloc, body.get(), scope);
+            for_of(alloc, *place, header, body)
+        }
     }
-}
-
-/// `if` in a scope.
-#[cycle(statements)]
-#[tactic(auto, using(crate::proofs::StatementForms::forms), unfolding(crate::specs::Answers::and_then))]
-fn branch_in(
-    alloc: Global,
-    place: Place,
-    test: &Expr,
-    yes: &Stmt,
-    no: &Option<Boxed<Stmt>>,
-    scope: &Scope,
-) -> Result<Stmt, ElabFault>
-    ensures { Answers (λ s. s) result (statement_in (frames_of scope.now) (stmt.If place test.now yes.now no.now)) }
-{
-    let test = put_in(alloc, test, scope)?;
-    let yes = statement_in(alloc, yes, scope)?;
-    let no = else_in(alloc, no, scope)?;
-    Ok(branch(alloc, place, test, yes, no)?)
-}
-
-/// `case` in a scope.
-#[cycle(statements)]
-#[tactic(auto, using(crate::proofs::StatementForms::forms), unfolding(crate::specs::Answers::and_then))]
-fn case_in(
-    alloc: Global,
-    place: Place,
-    matching: Matching,
-    selector: &Expr,
-    arms: &[Arm<Boxed<Stmt>>],
-    scope: &Scope,
-) -> Result<Stmt, ElabFault>
-    ensures { Answers (λ s. s) result (statement_in (frames_of scope.now) (stmt.Case place matching selector.now arms.now)) }
-{
-    let selector = put_in(alloc, selector, scope)?;
-    let arms = arms_in(alloc, arms, scope)?;
-    Ok(Stmt::Case(place, matching, selector, arms))
-}
-
-/// `for` in a scope.
-#[cycle(statements)]
-#[tactic(auto, using(crate::proofs::StatementForms::forms), unfolding(crate::specs::Answers::and_then))]
-fn for_in(
-    alloc: Global,
-    place: Place,
-    header: &Loop,
-    body: &Stmt,
-    scope: &Scope,
-) -> Result<Stmt, ElabFault>
-    ensures { Answers (λ s. s) result (statement_in (frames_of scope.now) (stmt.For place header.now body.now)) }
-{
-    let header = loop_in(alloc, header, scope)?;
-    let body = statement_in(alloc, body, scope)?;
-    Ok(repeated(alloc, place, header, body)?)
 }
 
 /// What stands behind `else`, if anything does.
@@ -219,7 +227,6 @@ fn else_in(
 
 /// The statements of a block.
 #[cycle(statements)]
-#[tactic(auto, using(crate::proofs::Lists::gathers))]
 fn statements_in(alloc: Global, inner: &[Stmt], scope: &Scope) -> Result<Items<Stmt>, ElabFault>
     ensures { Answers (λ ss. ss) result (gathered (map (statement_in (frames_of scope.now)) inner.now)) }
 {
@@ -253,7 +260,6 @@ fn arm_in(
 
 /// The items of a `case`.
 #[cycle(statements)]
-#[tactic(auto, using(crate::proofs::Lists::gathers))]
 fn arms_in(
     alloc: Global,
     items: &[Arm<Boxed<Stmt>>],
