@@ -58,3 +58,5 @@ more-fault {A} {B} f out xs i x fault r within is answer before = ⊎_elim
 pub more-end : {A B : Type 0} (f : B → Or_fault A) (out : List A) (xs : List B) (i : ℕ) (r : Or_fault (List A)) → length xs ≤ i → more out (gathered (map f (drop i xs))) ≡ r → r ≡ Ok out
 unfolding gathered more
 more-end {A} {B} f out xs i r past before = sym before ∙ ap (λ (ys : List B). more out (gathered (map f ys))) (drop_all i xs past) ∙ ap Ok (append-nil out)
+
+pub ruleset gathers = (more-nil)

@@ -1,5 +1,5 @@
 -- What each form of statement is in a scope.
-use Rattle.std.proofs.Common.{◌≡◌, ℕ, List, [], ◌∷◌, map, Option, Some, None, Ok, Err, refl, sym, ap, ◌∙◌}
+use Rattle.std.proofs.Common.{◌≡◌, ℕ, List, [], ◌∷◌, map, Option, Some, None, Ok, Err, refl, sym, ap, subst, ◌∙◌}
 use Rattle.std.specs.Option.{option_map}
 use Rattle.rdc_outside.specs.declared.source.Place.{Place}
 use Rattle.vlog_tree.specs.declared.ident.Ident.{Ident}
@@ -11,7 +11,7 @@ use Rattle.vlog_tree.specs.declared.stmt.Loop.{Loop}
 use Rattle.vlog_tree.specs.declared.stmt.Stmt.{Stmt, fold-roll-Stmt}
 use Rattle.vlog_tree.specs.declared.stmt.Stmt.TheOpen.{Stmt-F}
 use Rattle.vlog_tree.specs.declared.stmt.Stmt.TheVariants.{Empty, Block, Assign, If, Case, For, rolls-Empty, rolls-Block, rolls-Assign, rolls-If, rolls-Case, rolls-For}
-use Rattle.elab_names.specs.Answers.{Or_fault, and_then, gathered, optional}
+use Rattle.elab_names.specs.Answers.{Answers, Or_fault, and_then, gathered, optional}
 use Rattle.elab_names.specs.Meanings.{Frames}
 use Rattle.elab_names.specs.Expressions.{put_in}
 use Rattle.elab_names.specs.Targets.{target_in}
@@ -47,6 +47,23 @@ statement-Case frames place matching selector arms =
 pub statement-For : (frames : Frames) (place : Place) (header : Loop) (body : Stmt) → statement_in frames (For place header body) ≡ and_then (loop_in frames header) (λ h. and_then (statement_in frames body) (λ b. Ok (For place h b)))
 unfolding statement_in statement_by_parts
 statement-For frames place header body = ap (statement_in frames) (sym (rolls-For place header body)) ∙ fold-roll-Stmt (Or_fault Stmt) (statement_by_parts frames) (Stmt-F.For place header body)
+
+-- ---- what is answered for the parts is answered for the whole
+
+pub answers-If : (frames : Frames) (e : Stmt) (test : Expr) (x a : Stmt) (no : Option Stmt) (place : Place) (r : Or_fault Stmt) → e ≡ If place test x no → a ≡ x
+    → Answers (λ z. z) r (and_then (put_in frames test) (λ t. and_then (statement_in frames a) (λ p. and_then (optional (option_map (statement_in frames) no)) (λ q. Ok (If place t p q))))) → Answers (λ z. z) r (statement_in frames e)
+answers-If frames e test x a no place r is left answer =
+    subst (λ (w : Or_fault Stmt). Answers (λ z. z) r w) (sym (statement-If frames place test a no) ∙ ap (statement_in frames) (ap (λ (p : Stmt). If place test p no) left ∙ sym is)) answer
+
+pub answers-Case : (frames : Frames) (e : Stmt) (matching : Matching) (selector : Expr) (arms items : List (Arm Stmt)) (place : Place) (r : Or_fault Stmt) → e ≡ Case place matching selector arms → items ≡ arms
+    → Answers (λ z. z) r (and_then (put_in frames selector) (λ s. and_then (gathered (map (arm_with frames) items)) (λ xs. Ok (Case place matching s xs)))) → Answers (λ z. z) r (statement_in frames e)
+answers-Case frames e matching selector arms items place r is same answer =
+    subst (λ (w : Or_fault Stmt). Answers (λ z. z) r w) (sym (statement-Case frames place matching selector items) ∙ ap (statement_in frames) (ap (λ (p : List (Arm Stmt)). Case place matching selector p) same ∙ sym is)) answer
+
+pub answers-For : (frames : Frames) (e : Stmt) (header : Loop) (x a : Stmt) (place : Place) (r : Or_fault Stmt) → e ≡ For place header x → a ≡ x
+    → Answers (λ z. z) r (and_then (loop_in frames header) (λ h. and_then (statement_in frames a) (λ p. Ok (For place h p)))) → Answers (λ z. z) r (statement_in frames e)
+answers-For frames e header x a place r is left answer =
+    subst (λ (w : Or_fault Stmt). Answers (λ z. z) r w) (sym (statement-For frames place header a) ∙ ap (statement_in frames) (ap (λ (p : Stmt). For place header p) left ∙ sym is)) answer
 
 -- each form of statement, for tactics
 pub ruleset forms = (statement-Empty, statement-Block, statement-Assign, statement-If, statement-Case, statement-For)

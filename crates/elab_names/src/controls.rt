@@ -59,6 +59,7 @@ fn event_in(alloc: Global, event: &Event, scope: &Scope) -> Result<Event, ElabFa
 }
 
 /// Events.
+#[tactic(auto, using(crate::proofs::Lists::gathers))]
 fn events_in(alloc: Global, events: &[Event], scope: &Scope) -> Result<Items<Event>, ElabFault>
     ensures { Answers (λ es. es) result (gathered (map (event_in (frames_of scope.now)) events.now)) }
 {

@@ -284,6 +284,7 @@ pub fn put_in(alloc: Global, e: &Expr, scope: &Scope) -> Result<Expr, ElabFault>
 
 /// Expressions in a scope.
 #[cycle(parts)]
+#[tactic(auto, using(crate::proofs::Lists::gathers))]
 pub(crate) fn all_put_in(
     alloc: Global,
     members: &[Expr],

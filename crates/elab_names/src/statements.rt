@@ -227,6 +227,7 @@ fn else_in(
 
 /// The statements of a block.
 #[cycle(statements)]
+#[tactic(auto, using(crate::proofs::Lists::gathers))]
 fn statements_in(alloc: Global, inner: &[Stmt], scope: &Scope) -> Result<Items<Stmt>, ElabFault>
     ensures { Answers (λ ss. ss) result (gathered (map (statement_in (frames_of scope.now)) inner.now)) }
 {
@@ -260,6 +261,7 @@ fn arm_in(
 
 /// The items of a `case`.
 #[cycle(statements)]
+#[tactic(auto, using(crate::proofs::Lists::gathers))]
 fn arms_in(
     alloc: Global,
     items: &[Arm<Boxed<Stmt>>],

@@ -101,6 +101,7 @@ pub fn target_in(alloc: Global, e: &Expr, scope: &Scope) -> Result<Expr, ElabFau
 
 /// The members of a concatenation that is assigned.
 #[cycle(targets)]
+#[tactic(auto, using(crate::proofs::Lists::gathers))]
 fn targets_in(alloc: Global, members: &[Expr], scope: &Scope) -> Result<Items<Expr>, ElabFault>
     ensures { Answers (λ es. es) result (gathered (map (target_in (frames_of scope.now)) members.now)) }
 {
