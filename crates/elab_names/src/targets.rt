@@ -4,7 +4,7 @@ ghost use Rattle.vlog_tree.specs.declared.expr.Expr.TheVariants as expr;
 ghost use Rattle.elab_names.specs.Answers.{Answers, gathered};
 ghost use Rattle.elab_names.specs.Expressions.{put_in};
 ghost use Rattle.elab_names.specs.Meanings.{found, frames_of};
-ghost use Rattle.elab_names.specs.Targets.{assignable, target_in};
+ghost use Rattle.elab_names.specs.Targets.{assignable, printed, target_in};
 
 use crate::answers::assignable;
 use crate::expressions::{put_in, select};
