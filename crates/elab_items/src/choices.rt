@@ -4,10 +4,10 @@ ghost use Rattle.elab_names.specs.Answers.{Answers, gathered};
 ghost use Rattle.elab_names.specs.Meanings.{frames_of};
 ghost use Rattle.elab_items.specs.Choices.{any_equal, chosen, equal, is_true, label, labels, picked, widest, widest_of};
 
-use elab_names::{ElabFault, Scope, constant, put_in};
+use elab_names::{ElabFault, Scope, alone, constant, put_in};
 use sqlite_items::Items;
 use std::alloc::Global;
-use vlog_const::{Env, Shape, value, value_in};
+use vlog_const::{Env, Shape, value_in};
 use vlog_tree::{Arm, Expr};
 
 /// Whether a test is true.
@@ -35,7 +35,7 @@ fn label(alloc: Global, e: &Expr, scope: &Scope) -> Result<Label, ElabFault>
     ensures { Answers (λ l. l) result (label (frames_of scope.now) e.now) }
 {
     let expr = put_in(alloc, e, scope)?;
-    let value = value(alloc, &expr, &Env::new(alloc))?;
+    let value = alone(alloc, &expr)?;
     let shape = Shape {
         width: value.width,
         signed: value.signed,
@@ -50,8 +50,35 @@ fn labels_of(alloc: Global, es: &[Expr], scope: &Scope) -> Result<Vec<Label>, El
 {
     let mut out = Vec::new(alloc);
     for e in es {
-        let l = label(alloc, e, scope)?;
-        out.push(l)?;
+        match label(alloc, e, scope) {
+            Ok(l) => match out.push(l) {
+                Ok(()) => {}
+                Err(_) => return Err(ElabFault::Memory),
+            },
+            Err(fault) => return Err(fault),
+        }
+    }
+    Ok(out)
+}
+
+/// The labels of each arm.
+#[tactic(auto, using(elab_names::proofs::Lists::gathers))]
+fn labels<B>(
+    alloc: Global,
+    arms: &[Arm<B>],
+    scope: &Scope,
+) -> Result<Vec<Vec<Label>>, ElabFault>
+    ensures { Answers (λ ls. map (λ l. l.items) ls.items) result (labels (frames_of scope.now) (map (λ a. a.labels) arms.now)) }
+{
+    let mut out = Vec::new(alloc);
+    for arm in arms {
+        match labels_of(alloc, arm.labels.as_slice(), scope) {
+            Ok(ls) => match out.push(ls) {
+                Ok(()) => {}
+                Err(_) => return Err(ElabFault::Memory),
+            },
+            Err(fault) => return Err(fault),
+        }
     }
     Ok(out)
 }

@@ -1,6 +1,6 @@
 mod NameLemmas
 mod AnswerLemmas
-mod Lists
+pub mod Lists
 mod HoldForms
 mod PutForms
 mod TargetForms

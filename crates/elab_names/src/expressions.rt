@@ -318,9 +318,12 @@ pub fn constant(alloc: Global, e: &Expr, scope: &Scope) -> Result<ConstValue, El
     alone(alloc, &e)
 }
 
-/// The value of an expression without names in a context of at least `width` bits.
+/// The value of an expression that is put in, as on the right of an assignment to `width` bits.
+///
+/// # Errors
+/// As `alone`, and `Const(TooWide)` where `width` passes 128.
 #[tactic(auto, using(crate::proofs::AnswerLemmas::lifts))]
-fn within(alloc: Global, e: &Expr, width: u32) -> Result<ConstValue, ElabFault>
+pub fn within(alloc: Global, e: &Expr, width: u32) -> Result<ConstValue, ElabFault>
     ensures value { Answers (λ v. v) result (lifted (value_within no_values width e.now)) }
     ensures bound { IfOk result (λ v. v.width ≤ 128) }
 {

@@ -19,10 +19,11 @@ mod statements;
 mod targets;
 
 pub use controls::control_in;
-pub use expressions::{constant, constant_within, put_in};
+pub use expressions::{constant, constant_within, put_in, within};
 pub use fault::ElabFault;
 pub use laws::constants_keep_their_worth;
 pub use meaning::{Known, Meaning};
+pub use numbers::alone;
 pub use scope::Scope;
 pub use statements::statement_in;
 pub use targets::target_in;

@@ -63,9 +63,12 @@ fn any_holds(members: &[Expr]) -> bool
     false
 }
 
-/// The value of an expression without names.
+/// The value of an expression that is put in.
+///
+/// # Errors
+/// `Const` where it has no value as a constant: a signal in it is `NotConstant` at its place.
 #[tactic(auto, using(crate::proofs::AnswerLemmas::lifts))]
-pub(crate) fn alone(alloc: Global, e: &Expr) -> Result<ConstValue, ElabFault>
+pub fn alone(alloc: Global, e: &Expr) -> Result<ConstValue, ElabFault>
     ensures value { Answers (λ v. v) result (lifted (value_of no_values e.now)) }
     ensures bound { IfOk result (λ v. v.width ≤ 128) }
 {

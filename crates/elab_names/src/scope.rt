@@ -1,7 +1,7 @@
 //! Names in frames, one within the other.
 ghost use Rattle.std.specs.Prelude.{◌≡◌, ◌<◌, [], ◌∷◌, drop, length, not, IfOk, OnErr, OnOk};
 ghost use Rattle.std.specs.Option.{is_some, option_copied};
-ghost use Rattle.elab_names.specs.Meanings.{declaring, found, frames_of, innermost, names_of_all, no_names};
+ghost use Rattle.elab_names.specs.Meanings.{declared, declaring, found, frames_of, innermost, names_of_all, no_names};
 
 use crate::frame::Frame;
 use crate::meaning::Meaning;
@@ -18,7 +18,6 @@ pub struct Scope {
 }
 
 /// What a name means in frames, the last of which counts first.
-
 fn found_in<'a>(frames: &'a [Frame], name: &[u8]) -> Option<&'a Meaning>
     ensures { option_copied result ≡ found (names_of_all frames.now) name.now }
 {
@@ -83,6 +82,18 @@ impl Scope {
         let name = Vec::from_slice(self.alloc, name)?;
         self.inner.set(name, meaning)?;
         Ok(true)
+    }
+
+    /// Gives a name a meaning in the innermost frame, in the place of the one that it had there.
+    ///
+    /// # Errors
+    /// Want of memory; then the frames are what they were.
+    pub fn set(&mut self, name: &[u8], meaning: Meaning) -> Result<(), AllocError>
+        ensures ok { OnOk result (frames_of self.new ≡ declared (frames_of self.old) name.now meaning) }
+        ensures err { OnErr result (frames_of self.new ≡ frames_of self.old) }
+    {
+        let name = Vec::from_slice(self.alloc, name)?;
+        self.inner.set(name, meaning)
     }
 
     /// What a name means: the first frame that has it tells.
