@@ -1,6 +1,0 @@
-pub mod Plans
-pub mod Scopes
-pub mod Choices
-pub mod Instances
-pub mod Items
-pub mod Tables
