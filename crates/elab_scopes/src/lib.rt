@@ -16,7 +16,7 @@ mod signal;
 
 pub use drawing::Drawing;
 pub use given::Given;
-pub use opening::open_scope;
+pub use opening::{open_scope, taken};
 pub use parameter::{parameter_value, parameters};
 pub use place::place_of;
 pub use placed::Placed;

@@ -17,8 +17,11 @@ use std::alloc::{AllocError, Global};
 use vlog_tree::{Item, Parameter, Port};
 
 /// What a scope declares.
+///
+/// # Errors
+/// Those of `declared`.
 #[tactic(auto, unfolding(crate::specs::Openings::taken, crate::specs::Openings::as_fault))]
-fn taken(
+pub fn taken(
     alloc: Global,
     head: &[Parameter],
     ports: &[Port],
