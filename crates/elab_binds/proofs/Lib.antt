@@ -1,0 +1,5 @@
+pub mod NameForms
+pub mod ListLemmas
+pub mod BookLemmas
+pub mod FlagLemmas
+pub mod PairLemmas
