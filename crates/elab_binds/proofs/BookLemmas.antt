@@ -20,9 +20,10 @@ next_module t ms k m lt is =
     rw add-one (ap (modules_from t k) (drop-cons ms k m lt) ∙ ap (λ y. modules_from (module_entered t k y.name.name) (suc k) (drop (suc k) ms)) (sym is))
 
 -- once the module at k is entered, the others are left
-pub one_module : (t u v : Book) (ms : List Module) (k : ℕ) (m : Module) → k < length ms → m ≡ get_or ms k m
-    → modules_from t k (drop k ms) ≡ v → u ≡ module_entered t k m.name.name → modules_from u (k + 1) (drop (k + 1) ms) ≡ v
-one_module t u v ms k m lt is before done = ap (λ w. modules_from w (k + 1) (drop (k + 1) ms)) done ∙ (sym (next_module t ms k m lt is) ∙ before)
+pub one_module : (t u v : Book) (ms : List Module) (k : ℕ) (m : Module) (name : List ℕ) → k < length ms → m ≡ get_or ms k m → name ≡ m.name.name
+    → modules_from t k (drop k ms) ≡ v → u ≡ module_entered t k name → modules_from u (k + 1) (drop (k + 1) ms) ≡ v
+one_module t u v ms k m name lt is named before done =
+    ap (λ w. modules_from w (k + 1) (drop (k + 1) ms)) (done ∙ ap (module_entered t k) named) ∙ (sym (next_module t ms k m lt is) ∙ before)
 
 -- behind the last one nothing is left
 pub all_modules : (t v : Book) (ms : List Module) (k : ℕ) → length ms ≤ k → modules_from t k (drop k ms) ≡ v → t ≡ v
@@ -37,9 +38,10 @@ unfolding boxes_from
 next_box t bs k b lt is =
     rw add-one (ap (boxes_from t k) (drop-cons bs k b lt) ∙ ap (λ y. boxes_from (box_entered t k y.module) (suc k) (drop (suc k) bs)) (sym is))
 
-pub one_box : (t u v : Book) (bs : List BoxPorts) (k : ℕ) (b : BoxPorts) → k < length bs → b ≡ get_or bs k b
-    → boxes_from t k (drop k bs) ≡ v → u ≡ box_entered t k b.module → boxes_from u (k + 1) (drop (k + 1) bs) ≡ v
-one_box t u v bs k b lt is before done = ap (λ w. boxes_from w (k + 1) (drop (k + 1) bs)) done ∙ (sym (next_box t bs k b lt is) ∙ before)
+pub one_box : (t u v : Book) (bs : List BoxPorts) (k : ℕ) (b : BoxPorts) (name : List ℕ) → k < length bs → b ≡ get_or bs k b → name ≡ b.module
+    → boxes_from t k (drop k bs) ≡ v → u ≡ box_entered t k name → boxes_from u (k + 1) (drop (k + 1) bs) ≡ v
+one_box t u v bs k b name lt is named before done =
+    ap (λ w. boxes_from w (k + 1) (drop (k + 1) bs)) (done ∙ ap (box_entered t k) named) ∙ (sym (next_box t bs k b lt is) ∙ before)
 
 pub all_boxes : (t v : Book) (bs : List BoxPorts) (k : ℕ) → length bs ≤ k → boxes_from t k (drop k bs) ≡ v → t ≡ v
 unfolding boxes_from
@@ -80,4 +82,4 @@ boxes_within m n t k (x ∷ bs) sum within =
 
 -- what a name means in a library is a module or a box of it
 pub library_within : (ms : List Module) (bs : List BoxPorts) (name : List ℕ) (f : Found) → library ms bs name ≡ Some (Once f) → IsWithin (length ms) (length bs) f
-library_within ms bs = boxes_within (length ms) (length bs) (modules_from no_books 0 ms) 0 bs refl (modules_within (length ms) (length bs) no_books 0 ms refl (λ name f is. absurd (cc)))
+library_within ms bs = boxes_within (length ms) (length bs) (modules_from no_books 0 ms) 0 bs (omega arith) (modules_within (length ms) (length bs) no_books 0 ms (omega arith) (λ name f is. absurd (cc)))

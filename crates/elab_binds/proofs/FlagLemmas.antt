@@ -25,12 +25,12 @@ front : {X : Type 0} (xs : List X) (k : ℕ) (x : X) → k < length xs → x ≡
 front xs k x lt is = rw add-one (drop-cons xs k x lt ∙ ap (λ y. y ∷ drop (suc k) xs) (sym is))
 
 -- once the flag at k is entered, the others are left
-pub one_flag : {X : Type 0} (name : X → List ℕ) (flag : X → Bool) (fs new : Flags) (xs : List X) (k : ℕ) (x : X) → k < length xs → x ≡ get_or xs k x
-    → behind fs (first_of name flag (drop k xs)) ≡ first_of name flag xs → new ≡ with_first fs (name x) (flag x)
+pub one_flag : {X : Type 0} (name : X → List ℕ) (flag : X → Bool) (fs new : Flags) (xs : List X) (k : ℕ) (x : X) (n : List ℕ) (b : Bool) → k < length xs → x ≡ get_or xs k x → n ≡ name x → b ≡ flag x
+    → behind fs (first_of name flag (drop k xs)) ≡ first_of name flag xs → new ≡ with_first fs n b
     → behind new (first_of name flag (drop (k + 1) xs)) ≡ first_of name flag xs
 unfolding first_of
-one_flag name flag fs new xs k x lt is before done =
-    ap (λ (w : Flags). behind w (first_of name flag (drop (k + 1) xs))) done
+one_flag name flag fs new xs k x n b lt is named flagged before done =
+    ap (λ (w : Flags). behind w (first_of name flag (drop (k + 1) xs))) (done ∙ (ap (λ (m : List ℕ). with_first fs m b) named ∙ ap (with_first fs (name x)) flagged))
     ∙ (fun_ext (λ other. entered_at fs (name x) other (flag x) (first_of name flag (drop (k + 1) xs) other) (bytes_eq (name x) other) (fs (name x)) refl refl)
     ∙ (ap (λ zs. behind fs (first_of name flag zs)) (sym (front xs k x lt is)) ∙ before))
 

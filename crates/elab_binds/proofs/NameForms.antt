@@ -1,5 +1,6 @@
 -- The parameters of each form of item, by name.
 use Rattle.std.proofs.Common.{◌≡◌, ℕ, List, [], ◌∷◌, ◌++◌, map, Option, refl, sym, ap, ◌∙◌}
+use Rattle.std.proofs.lemmas.List.{append-nil}
 use Rattle.std.specs.List.{flat_map}
 use Rattle.rdc_outside.specs.declared.source.Place.{Place}
 use Rattle.vlog_tree.specs.declared.ident.Ident.{Ident}
@@ -87,4 +88,4 @@ pub names-Case : (place : Place) (selector : Expr) (arms : List (Arm (Block (Lis
 unfolding names_of_item names_by_parts
 names-Case place selector arms = ap names_of_item (sym (i.rolls-Case place selector arms)) ∙ fold-roll-Item (List (List ℕ)) names_by_parts (Item-F.Case place selector arms)
 
-pub ruleset forms = (names-Ports, names-Wires, names-Registers, names-Integers, names-Genvars, names-Parameters, names-Constants, names-Assign, names-Always, names-Gates, names-Instances, names-Generate, names-For, names-If, names-Case)
+pub ruleset forms = (append-nil, names-Ports, names-Wires, names-Registers, names-Integers, names-Genvars, names-Parameters, names-Constants, names-Assign, names-Always, names-Gates, names-Instances, names-Generate, names-For, names-If, names-Case)

@@ -100,6 +100,19 @@ fn connect(
     }
 }
 
+/// The same of a port in the list.
+fn connect_pin(
+    alloc: Global,
+    d: &mut Draft,
+    prefix: &[u8],
+    pin: &Pin,
+    value: &Option<Expr>,
+) -> Result<(), ElabFault>
+    ensures { Changes result (draft_of d.new) (binding prefix.now (draft_of d.old) (pin_name pin.now) (pin_input pin.now) value.now) }
+{
+    connect(alloc, d, prefix, pin.name.as_slice(), pin.input, value)
+}
+
 /// Connections in order.
 fn connect_paired(
     alloc: Global,
@@ -112,8 +125,7 @@ fn connect_paired(
     ensures { Changes result (draft_of d.new) (paired (λ t pin value. binding prefix.now t (pin_name pin) (pin_input pin) value) (draft_of d.old) pins.now values.now) }
 {
     for (k, value) in values.iter().enumerate() {
-        let pin = &pins[k];
-        match connect(alloc, d, prefix, pin.name.as_slice(), pin.input, value) {
+        match connect_pin(alloc, d, prefix, &pins[k], value) {
             Ok(()) => {}
             Err(fault) => return Err(fault),
         }

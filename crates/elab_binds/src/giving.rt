@@ -37,6 +37,19 @@ fn give(
     }
 }
 
+/// The same of a name in the list.
+fn give_to(
+    alloc: Global,
+    given: &mut Given,
+    name: &Seq<u8>,
+    value: &Option<Expr>,
+    scope: &Scope,
+) -> Result<(), ElabFault>
+    ensures { Changes result (given_of given.new) (giving (frames_of scope.now) (given_of given.old) (same name.now) (always name.now) value.now) }
+{
+    give(alloc, given, name.as_slice(), value, scope)
+}
+
 /// Values in order.
 fn give_paired(
     alloc: Global,
@@ -49,7 +62,7 @@ fn give_paired(
     ensures { Changes result (given_of given.new) (paired (λ g name value. giving (frames_of scope.now) g (same name) (always name) value) (given_of given.old) names.now values.now) }
 {
     for (k, value) in values.iter().enumerate() {
-        match give(alloc, given, names[k].as_slice(), value, scope) {
+        match give_to(alloc, given, &names[k], value, scope) {
             Ok(()) => {}
             Err(fault) => return Err(fault),
         }
@@ -148,7 +161,13 @@ pub fn given(
     ensures { Answers given_of result (given (frames_of scope.now) place names.now passed.now) }
 {
     match passed {
-        Connections::Ordered(values) => given_in_order(alloc, values.as_slice(), names, scope, place),
+        Connections::Ordered(values) => given_in_order(
+            alloc,
+            values.as_slice(),
+            names,
+            scope,
+            place,
+        ),
         Connections::Named(all) => {
             let known = flags_in(alloc, names)?;
             given_by_name(alloc, all.as_slice(), &known, scope)

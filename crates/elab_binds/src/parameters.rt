@@ -15,11 +15,7 @@ fn add(alloc: Global, names: &mut Seq<Seq<u8>>, name: &[u8]) -> Result<(), Alloc
 }
 
 /// Those of bindings.
-fn name_all(
-    alloc: Global,
-    names: &mut Seq<Seq<u8>>,
-    bindings: &[Binding],
-) -> Result<(), AllocError>
+fn name_all(alloc: Global, names: &mut Seq<Seq<u8>>, bindings: &[Binding]) -> Result<(), AllocError>
     ensures { OnOk result (names.new ≡ names.old ++ map name_of bindings.now) }
 {
     for binding in bindings {
@@ -29,11 +25,7 @@ fn name_all(
 }
 
 /// Those of a module's head.
-fn name_head(
-    alloc: Global,
-    names: &mut Seq<Seq<u8>>,
-    head: &[Parameter],
-) -> Result<(), AllocError>
+fn name_head(alloc: Global, names: &mut Seq<Seq<u8>>, head: &[Parameter]) -> Result<(), AllocError>
     ensures { OnOk result (names.new ≡ names.old ++ map name_of_parameter head.now) }
 {
     for one in head {
