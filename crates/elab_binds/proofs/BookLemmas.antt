@@ -1,5 +1,5 @@
 -- A table of modules and boxes that is made one by one.
-use Rattle.std.proofs.Common.{◌≡◌, ℕ, suc, ◌+◌, ◌<◌, ◌≤◌, Bool, true, false, if◌then◌else◌, List, [], ◌∷◌, length, drop, get_or, Option, Some, None, Vec, Global, refl, sym, ap, subst, ◌∙◌, add-one, arith}
+use Rattle.std.proofs.Common.{◌≡◌, ℕ, suc, ◌+◌, ◌<◌, ◌≤◌, Bool, true, false, if◌then◌else◌, List, [], ◌∷◌, length, drop, get_or, Option, Some, None, sym, ap, subst, ◌∙◌, add-one, arith}
 use Rattle.std.proofs.Math.Seq.{drop-cons}
 use Rattle.std.proofs.lemmas.List.{drop_all}
 use Rattle.std.specs.Str.{bytes_eq}
@@ -9,7 +9,7 @@ use Rattle.elab_binds.specs.declared.index.Found.{Found}
 use Rattle.elab_binds.specs.declared.index.Found.TheVariants as found
 use Rattle.elab_binds.specs.declared.index.Listed.{Listed}
 use Rattle.elab_binds.specs.declared.index.Listed.TheVariants.{Once, Twice}
-use Rattle.elab_binds.specs.Books.{Book, no_books, with_listed, with_module, with_box, module_entered, box_entered, modules_from, boxes_from, library, IsWithin}
+use Rattle.elab_binds.specs.Books.{Book, no_books, with_module, with_box, module_entered, box_entered, modules_from, boxes_from, library, IsWithin}
 
 -- ---- modules
 

@@ -1,7 +1,7 @@
 -- The drivers that bind the ports of an instance. An input is driven by the expression that stands there, and an output
 -- drives it. A port is the signal of its name behind the instance's.
 --     pin_of at p, pins_of_module at ports, pins_of_box ports        ports, in the order of their list
---     binding prefix           a connection to a port
+--     binding prefix                    a connection to a port
 --     bound prefix place pins c d       the draft with all of them
 use Rattle.std.specs.Prelude.{ℕ, Bool, true, false, List, ◌++◌, map, Option, Some, None, Ok}
 use Rattle.rdc_outside.specs.declared.source.Place.{Place}
@@ -10,7 +10,6 @@ use Rattle.vlog_tree.specs.declared.expr.Expr.TheVariants as expr
 use Rattle.vlog_tree.specs.declared.port.Port.{Port}
 use Rattle.vlog_tree.specs.declared.port.Port.TheVariants as port
 use Rattle.vlog_tree.specs.declared.item.Connections.{Connections}
-use Rattle.design_form.specs.declared.parts.Driver.{Driver}
 use Rattle.design_form.specs.declared.parts.DriverKind.TheVariants.{Binding}
 use Rattle.elab_decls.specs.declared.entry.Entry.{Entry}
 use Rattle.elab_names.specs.Answers.{Or_fault, ◌>>=◌}

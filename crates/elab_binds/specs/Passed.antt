@@ -1,9 +1,8 @@
 -- The values that an instance gives to the parameters of its module. They are put in where the instance stands.
---     giving frames            a connection to a parameter
---     given frames place names c
-use Rattle.std.specs.Prelude.{ℕ, Bool, true, List, Option, Some, None, Ok}
+--     giving frames                      a connection to a parameter
+--     given frames place names c         all that is given, by name
+use Rattle.std.specs.Prelude.{ℕ, Bool, true, List, Some, None, Ok}
 use Rattle.rdc_outside.specs.declared.source.Place.{Place}
-use Rattle.vlog_tree.specs.declared.expr.Expr.{Expr}
 use Rattle.vlog_tree.specs.declared.item.Connections.{Connections}
 use Rattle.elab_names.specs.Answers.{Or_fault, ◌>>=◌}
 use Rattle.elab_names.specs.Meanings.{Frames}
@@ -19,7 +18,7 @@ giving frames g name flag (Some e) = do
   v ← put_in frames e
   Ok (with_given g name v)
 
--- every parameter may be given
+-- a parameter is known by its name, and may always be given
 abbrev pub same : List ℕ → List ℕ
 same name = name
 

@@ -1,4 +1,4 @@
-use Rattle.std.proofs.Common.{◌≡◌, arith}
+use Rattle.std.proofs.Common.{arith}
 use Rattle.elab_drivers.specs.Drafts.{draft_of}
 use Rattle.elab_scopes.proofs.ThreadLemmas.{one_more, one_stops, all_done}
 use Rattle.elab_binds.specs.Connections.{named_one, so_far}

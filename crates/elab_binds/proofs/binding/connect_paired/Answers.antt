@@ -1,4 +1,4 @@
-use Rattle.std.proofs.Common.{◌≡◌, arith}
+use Rattle.std.proofs.Common.{arith}
 use Rattle.elab_drivers.specs.Drafts.{draft_of}
 use Rattle.elab_binds.specs.Connections.{paired}
 use Rattle.elab_binds.specs.Bindings.{binding, pin_input, pin_name}

@@ -1,4 +1,4 @@
-use Rattle.std.proofs.Common.{◌≡◌, arith}
+use Rattle.std.proofs.Common.{arith}
 use Rattle.elab_binds.specs.Flags.{flags_of}
 use Rattle.elab_binds.proofs.FlagLemmas.{no_flag, one_flag, all_flags}
 use Rattle.elab_binds.proofs.flags.flags_in.Goals as goal

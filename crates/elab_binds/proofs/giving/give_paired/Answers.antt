@@ -1,4 +1,4 @@
-use Rattle.std.proofs.Common.{◌≡◌, arith}
+use Rattle.std.proofs.Common.{arith}
 use Rattle.elab_names.specs.Meanings.{frames_of}
 use Rattle.elab_scopes.specs.Tables.{given_of}
 use Rattle.elab_binds.specs.Connections.{paired}

@@ -1,4 +1,4 @@
-use Rattle.std.proofs.Common.{◌≡◌, arith}
+use Rattle.std.proofs.Common.{arith}
 use Rattle.elab_binds.specs.Books.{book_of, boxes_from}
 use Rattle.elab_binds.proofs.BookLemmas.{one_box, all_boxes}
 use Rattle.elab_binds.proofs.index.enter_boxes.Goals as goal

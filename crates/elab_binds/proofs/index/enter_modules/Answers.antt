@@ -1,4 +1,4 @@
-use Rattle.std.proofs.Common.{◌≡◌, arith}
+use Rattle.std.proofs.Common.{arith}
 use Rattle.elab_binds.specs.Books.{book_of, modules_from}
 use Rattle.elab_binds.proofs.BookLemmas.{one_module, all_modules}
 use Rattle.elab_binds.proofs.index.enter_modules.Goals as goal

@@ -1,5 +1,5 @@
 -- The library is what its lists say.
-use Rattle.std.proofs.Common.{◌≡◌, Some, sym, ap, ◌∙◌}
+use Rattle.std.proofs.Common.{Some, sym, ap, ◌∙◌}
 use Rattle.elab_binds.specs.Books.{Book}
 use Rattle.elab_binds.proofs.BookLemmas.{library_within}
 use Rattle.elab_binds.proofs.library.Library.find.Goals as goal
