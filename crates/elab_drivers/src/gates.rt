@@ -21,7 +21,8 @@ use vlog_tree::{Expr, Gate, GateKind};
 #[tactic(auto, unfolding(crate::specs::Drivers::outputs))]
 fn outputs(kind: GateKind, terminals: usize) -> usize
     requires { 2 ≤ terminals }
-    ensures { result ≡ outputs kind terminals }
+    ensures value { result ≡ outputs kind terminals }
+    ensures bound { result ≤ terminals }
 {
     match kind {
         GateKind::Not | GateKind::Buf => terminals - 1,
@@ -31,34 +32,36 @@ fn outputs(kind: GateKind, terminals: usize) -> usize
 
 /// Outputs, behind what is there.
 #[tactic(auto, using(elab_names::proofs::Lists::gathers))]
-fn outputs_in(
-    alloc: Global,
-    terminals: &[Expr],
-    scope: &Scope,
-) -> Result<Items<Expr>, ElabFault>
+fn outputs_in(alloc: Global, terminals: &[Expr], scope: &Scope) -> Result<Items<Expr>, ElabFault>
     ensures { Answers (λ es. es) result (gathered (map (assigned (frames_of scope.now)) terminals.now)) }
 {
     let mut out = Items::from_vec(Vec::with_capacity(alloc, terminals.len())?);
     for terminal in terminals {
-        let terminal = assigned(alloc, terminal, scope)?;
-        out.push(terminal)?;
+        match assigned(alloc, terminal, scope) {
+            Ok(terminal) => match out.push(terminal) {
+                Ok(()) => {}
+                Err(_) => return Err(ElabFault::Memory),
+            },
+            Err(fault) => return Err(fault),
+        }
     }
     Ok(out)
 }
 
 /// Inputs.
 #[tactic(auto, using(elab_names::proofs::Lists::gathers))]
-fn inputs_in(
-    alloc: Global,
-    terminals: &[Expr],
-    scope: &Scope,
-) -> Result<Items<Expr>, ElabFault>
+fn inputs_in(alloc: Global, terminals: &[Expr], scope: &Scope) -> Result<Items<Expr>, ElabFault>
     ensures { Answers (λ es. es) result (gathered (map (put_in (frames_of scope.now)) terminals.now)) }
 {
     let mut out = Items::from_vec(Vec::with_capacity(alloc, terminals.len())?);
     for terminal in terminals {
-        let terminal = put_in(alloc, terminal, scope)?;
-        out.push(terminal)?;
+        match put_in(alloc, terminal, scope) {
+            Ok(terminal) => match out.push(terminal) {
+                Ok(()) => {}
+                Err(_) => return Err(ElabFault::Memory),
+            },
+            Err(fault) => return Err(fault),
+        }
     }
     Ok(out)
 }

@@ -5,6 +5,9 @@ use Rattle.std.proofs.lemmas.List.{drop_all}
 use mathlib.Core.Path.{fun_ext}
 use Rattle.elab_names.specs.declared.fault.ElabFault.{ElabFault}
 use Rattle.elab_names.specs.Answers.{Or_fault, and_then}
+use Rattle.elab_names.specs.declared.meaning.Meaning.TheVariants.{Other}
+use Rattle.elab_names.specs.Meanings.{Frames, declaring}
+use Rattle.elab_scopes.specs.Openings.{all_other}
 use Rattle.elab_scopes.specs.Threads.{threaded, chained, Stops}
 
 -- the step at k is next
@@ -37,3 +40,17 @@ pub ready : {S X : Type 0} (f : X → S → Or_fault S) (xs : List X) (s : S) �
 unfolding chained threaded
 ready f [] s = refl
 ready f (x ∷ xs) s = ap (and_then (f x s)) (fun_ext (ready f xs))
+
+-- ---- names of a scope, of which those before the place k are declared
+
+pub one_named : (f g v : Frames) (ns : List (List ℕ)) (k : ℕ) (n : List ℕ) → k < length ns → n ≡ get_or ns k n
+    → all_other f (drop k ns) ≡ all_other v ns → g ≡ declaring f n Other → all_other g (drop (k + 1) ns) ≡ all_other v ns
+unfolding all_other
+one_named f g v ns k n lt is before done =
+    let next : all_other f (drop k ns) ≡ all_other (declaring f n Other) (drop (k + 1) ns) =
+    rw add-one (ap (all_other f) (drop-cons ns k n lt) ∙ ap (λ m. all_other (declaring f m Other) (drop (suc k) ns)) (sym is)) in
+    ap (λ h. all_other h (drop (k + 1) ns)) done ∙ (sym next ∙ before)
+
+pub all_named : (f v : Frames) (ns : List (List ℕ)) (k : ℕ) → length ns ≤ k → all_other f (drop k ns) ≡ all_other v ns → f ≡ all_other v ns
+unfolding all_other
+all_named f v ns k past before = sym (ap (all_other f) (drop_all k ns past)) ∙ before

@@ -3,3 +3,4 @@ pub mod Ranges
 pub mod Parameters
 pub mod Signals
 pub mod Tables
+pub mod Openings

@@ -7,16 +7,18 @@
 
 mod drawing;
 mod given;
-mod parameters;
+mod opening;
+mod parameter;
 mod place;
 mod placed;
 mod ranges;
-mod signals;
+mod signal;
 
 pub use drawing::Drawing;
 pub use given::Given;
-pub use parameters::{parameter_value, parameters};
+pub use opening::open_scope;
+pub use parameter::{parameter_value, parameters};
 pub use place::place_of;
 pub use placed::Placed;
 pub use ranges::{bounds, vector};
-pub use signals::signals;
+pub use signal::signals;
