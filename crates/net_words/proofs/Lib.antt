@@ -1,0 +1,4 @@
+pub mod BuildLemmas
+pub mod WorthLemmas
+pub mod BitWorths
+mod WordSteps

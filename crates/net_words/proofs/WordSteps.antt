@@ -1,0 +1,69 @@
+-- Serves the loops over words: what is left is one bit and the others, or nothing.
+use Rattle.std.proofs.Common.{◌≡◌, ℕ, zero, suc, ◌+◌, ◌<◌, ◌≤◌, All, List, [], ◌∷◌, ◌++◌, length, get_or, drop, refl, sym, ◌∙◌, ap, subst, subst₂, add-one, drop-cons, arith, lt_of_lt_of_le}
+use Rattle.std.proofs.lemmas.List.{drop_all}
+use Rattle.std.proofs.lemmas.List.Elements.{All-push, All-get_or, All-nil}
+use Rattle.net_view.specs.declared.gate.Gate.TheVariants.{Not}
+use Rattle.net_core.specs.Net.{Net}
+use Rattle.net_words.specs.declared.bits.Bitwise.{Bitwise}
+use Rattle.net_words.specs.Builds.{Build, ◌>>=◌, return, put, behind, AreThere}
+use Rattle.net_words.specs.Bits.{bit, mux}
+use Rattle.net_words.specs.Words.{inverted, each, select, reduced_from}
+use Rattle.net_words.proofs.BuildLemmas.{IsLeft, bit_first, all_bits}
+
+-- a word is still there in a net that has grown, and so is its next bit
+pub still_there : (old new : Net) (word : List ℕ) → AreThere old word → length old.gates ≤ length new.gates → AreThere new word
+still_there old new word there longer k d inside = lt_of_lt_of_le (there k d inside) longer
+
+pub one_more : (old new : Net) (word : List ℕ) (n : ℕ) → AreThere old word → length old.gates ≤ length new.gates → n < length new.gates → AreThere new (word ++ n ∷ [])
+one_more old new word n there longer inside = All-push (λ n. n < length new.gates) word n (still_there old new word there longer) inside
+
+pub bit_there : (old now : Net) (word : List ℕ) (i a : ℕ) → AreThere old word → length old.gates ≤ length now.gates → i < length word → a ≡ get_or word i a → a < length now.gates
+bit_there old now word i a there longer inside is = subst (λ (n : ℕ). n < length now.gates) (sym is) (still_there old now word there longer i a inside)
+
+drop_here : (word : List ℕ) (i a : ℕ) → i < length word → a ≡ get_or word i a → drop i word ≡ a ∷ drop (i + 1) word
+drop_here word i a inside is = drop-cons word i a inside ∙ (λ j. sym is j ∷ drop (sym (add-one i) j) word)
+
+pub inverted_here : {all : Build (List ℕ)} {old now : Net} (word made : List ℕ) (i a : ℕ) → i < length word → a ≡ get_or word i a
+    → IsLeft all old now (behind made (inverted (drop i word))) → IsLeft all old now (put (Not a) >>= (λ n. behind (made ++ n ∷ []) (inverted (drop (i + 1) word))))
+unfolding inverted
+inverted_here {all} {old} {now} word made i a inside is left =
+    bit_first made (put (Not a)) (λ n. n) (λ n. inverted (drop (i + 1) word))
+    (subst (λ (w : List ℕ). IsLeft all old now (behind made (inverted w))) (drop_here word i a inside is) left)
+
+pub inverted_whole : {all : Build (List ℕ)} {old now : Net} (word made : List ℕ) (i : ℕ) → length word ≤ i → IsLeft all old now (behind made (inverted (drop i word))) → IsLeft all old now (return made)
+unfolding inverted
+inverted_whole {all} {old} {now} word made i past left =
+    all_bits made (subst (λ (w : List ℕ). IsLeft all old now (behind made (inverted w))) (drop_all i word past) left)
+
+pub each_here : {all : Build (List ℕ)} {old now : Net} (op : Bitwise) (x y made : List ℕ) (i a b : ℕ) → i < length x → i < length y → a ≡ get_or x i a → b ≡ get_or y i b
+    → IsLeft all old now (behind made (each op (drop i x) (drop i y))) → IsLeft all old now (bit op a b >>= (λ n. behind (made ++ n ∷ []) (each op (drop (i + 1) x) (drop (i + 1) y))))
+unfolding each
+each_here {all} {old} {now} op x y made i a b in_x in_y a-is b-is left =
+    bit_first made (bit op a b) (λ n. n) (λ n. each op (drop (i + 1) x) (drop (i + 1) y))
+    (subst₂ (λ (v w : List ℕ). IsLeft all old now (behind made (each op v w))) (drop_here x i a in_x a-is) (drop_here y i b in_y b-is) left)
+
+pub each_whole : {all : Build (List ℕ)} {old now : Net} (op : Bitwise) (x y made : List ℕ) (i : ℕ) → length x ≤ i → IsLeft all old now (behind made (each op (drop i x) (drop i y))) → IsLeft all old now (return made)
+unfolding each
+each_whole {all} {old} {now} op x y made i past left =
+    all_bits made (subst (λ (w : List ℕ). IsLeft all old now (behind made (each op w (drop i y)))) (drop_all i x past) left)
+
+pub select_here : {all : Build (List ℕ)} {old now : Net} (s : ℕ) (x y made : List ℕ) (i a b : ℕ) → i < length x → i < length y → a ≡ get_or x i a → b ≡ get_or y i b
+    → IsLeft all old now (behind made (select s (drop i x) (drop i y))) → IsLeft all old now (mux s a b >>= (λ n. behind (made ++ n ∷ []) (select s (drop (i + 1) x) (drop (i + 1) y))))
+unfolding select
+select_here {all} {old} {now} s x y made i a b in_x in_y a-is b-is left =
+    bit_first made (mux s a b) (λ n. n) (λ n. select s (drop (i + 1) x) (drop (i + 1) y))
+    (subst₂ (λ (v w : List ℕ). IsLeft all old now (behind made (select s v w))) (drop_here x i a in_x a-is) (drop_here y i b in_y b-is) left)
+
+pub select_whole : {all : Build (List ℕ)} {old now : Net} (s : ℕ) (x y made : List ℕ) (i : ℕ) → length x ≤ i → IsLeft all old now (behind made (select s (drop i x) (drop i y))) → IsLeft all old now (return made)
+unfolding select
+select_whole {all} {old} {now} s x y made i past left =
+    all_bits made (subst (λ (w : List ℕ). IsLeft all old now (behind made (select s w (drop i y)))) (drop_all i x past) left)
+
+pub reduced_here : {all : Build ℕ} {old now : Net} (op : Bitwise) (found : ℕ) (word : List ℕ) (i a : ℕ) → i < length word → a ≡ get_or word i a
+    → IsLeft all old now (reduced_from op found (drop i word)) → IsLeft all old now (bit op found a >>= (λ n. reduced_from op n (drop (i + 1) word)))
+unfolding reduced_from
+reduced_here {all} {old} {now} op found word i a inside is left = subst (λ (w : List ℕ). IsLeft all old now (reduced_from op found w)) (drop_here word i a inside is) left
+
+pub reduced_whole : {all : Build ℕ} {old now : Net} (op : Bitwise) (found : ℕ) (word : List ℕ) (i : ℕ) → length word ≤ i → IsLeft all old now (reduced_from op found (drop i word)) → IsLeft all old now (return found)
+unfolding reduced_from
+reduced_whole {all} {old} {now} op found word i past left = subst (λ (w : List ℕ). IsLeft all old now (reduced_from op found w)) (drop_all i word past) left

@@ -1,0 +1,5 @@
+pub mod Builds
+pub mod Bits
+pub mod Words
+pub mod Sums
+pub mod Comparisons

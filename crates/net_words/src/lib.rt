@@ -1,0 +1,10 @@
+//! The gates of operations on words, built into a net.
+#![tactic(auto)]
+
+mod bits;
+mod reductions;
+mod words;
+
+pub use bits::{Bitwise, mux};
+pub use reductions::{all, any, parity};
+pub use words::{each, inverted, select};
