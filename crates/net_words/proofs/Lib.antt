@@ -2,3 +2,5 @@ pub mod BuildLemmas
 pub mod WorthLemmas
 pub mod BitWorths
 mod WordSteps
+pub mod WordWorths
+pub mod SumWorths

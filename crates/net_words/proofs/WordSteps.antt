@@ -1,13 +1,15 @@
 -- Serves the loops over words: what is left is one bit and the others, or nothing.
-use Rattle.std.proofs.Common.{◌≡◌, ℕ, zero, suc, ◌+◌, ◌<◌, ◌≤◌, All, List, [], ◌∷◌, ◌++◌, length, get_or, drop, refl, sym, ◌∙◌, ap, subst, subst₂, add-one, drop-cons, arith, lt_of_lt_of_le}
-use Rattle.std.proofs.lemmas.List.{drop_all}
+use Rattle.std.proofs.Common.{◌≡◌, ℕ, Bool, true, false, nat_lt, ◌-◌, take, inl, inr, lt-ltb, le-ltb, zero, suc, ◌+◌, ◌<◌, ◌≤◌, All, List, [], ◌∷◌, ◌++◌, length, get_or, drop, refl, sym, ◌∙◌, ap, subst, subst₂, add-one, drop-cons, arith, lt_of_lt_of_le}
+use Rattle.std.proofs.lemmas.Bool.{cases_lt}
+use Rattle.std.proofs.lemmas.List.{drop_all, take_all}
 use Rattle.std.proofs.lemmas.List.Elements.{All-push, All-get_or, All-nil}
-use Rattle.net_view.specs.declared.gate.Gate.TheVariants.{Not}
+use Rattle.net_view.specs.declared.gate.Gate.TheVariants.{Const, Not}
 use Rattle.net_core.specs.Net.{Net}
 use Rattle.net_words.specs.declared.bits.Bitwise.{Bitwise}
 use Rattle.net_words.specs.Builds.{Build, ◌>>=◌, return, put, behind, AreThere}
 use Rattle.net_words.specs.Bits.{bit, mux}
-use Rattle.net_words.specs.Words.{inverted, each, select, reduced_from}
+use Rattle.net_words.specs.Words.{inverted, each, select, reduced_from, reduced}
+use Rattle.net_words.specs.Sums.{full_adder, follows, sum}
 use Rattle.net_words.proofs.BuildLemmas.{IsLeft, bit_first, all_bits}
 
 -- a word is still there in a net that has grown, and so is its next bit
@@ -67,3 +69,43 @@ reduced_here {all} {old} {now} op found word i a inside is left = subst (λ (w :
 pub reduced_whole : {all : Build ℕ} {old now : Net} (op : Bitwise) (found : ℕ) (word : List ℕ) (i : ℕ) → length word ≤ i → IsLeft all old now (reduced_from op found (drop i word)) → IsLeft all old now (return found)
 unfolding reduced_from
 reduced_whole {all} {old} {now} op found word i past left = subst (λ (w : List ℕ). IsLeft all old now (reduced_from op found w)) (drop_all i word past) left
+
+pub reduced_none : (op : Bitwise) (none : Bool) (word : List ℕ) → length word < 1 → reduced op none word ≡ put (Const none)
+unfolding reduced
+reduced_none op none [] short = refl
+reduced_none op none (a ∷ w) short = absurd (omega (arith, short))
+
+pub reduced_first : (op : Bitwise) (none : Bool) (word : List ℕ) (a : ℕ) → 1 ≤ length word → a ≡ get_or word 0 a → reduced op none word ≡ reduced_from op a (take (length word - 1) (drop 1 word))
+unfolding reduced
+reduced_first op none [] a long is = absurd (omega (arith, long))
+reduced_first op none (b ∷ w) a long is = (λ j. reduced_from op (sym is j) (sym (take_all (length (b ∷ w) - 1) w (omega arith)) j))
+
+follows_true : (x y : List ℕ) (i : ℕ) → length x ≡ length y → i < length x → follows (drop i x) (drop i y) ≡ true
+follows_true [] y i width inside = absurd (omega (arith, inside))
+follows_true (a ∷ x) [] i width inside = absurd (omega (arith, width))
+follows_true (a ∷ x) (b ∷ y) zero width inside = refl
+follows_true (a ∷ x) (b ∷ y) (suc i) width inside = follows_true x y i (omega (arith, width)) (omega (arith, inside))
+
+follows_false : (x y : List ℕ) (i : ℕ) → length x ≤ i → follows (drop i x) (drop i y) ≡ false
+follows_false x y i past = rw (drop_all i x past) refl
+
+pub follows_is : (x y : List ℕ) (i : ℕ) → length x ≡ length y → follows (drop i x) (drop i y) ≡ nat_lt i (length x)
+follows_is x y i width =
+    elim (cases_lt i (length x)) [
+      | inl inside ↦ follows_true x y i width inside ∙ sym (lt-ltb i (length x) inside)
+      | inr past ↦ follows_false x y i past ∙ sym (le-ltb i (length x) past)
+    ]
+
+pub sum_here : {all : Build (List ℕ)} {old now : Net} (c : ℕ) (x y made : List ℕ) (i a b : ℕ) → length x ≡ length y → i < length x → a ≡ get_or x i a → b ≡ get_or y i b
+    → IsLeft all old now (behind made (sum c (drop i x) (drop i y)))
+    → IsLeft all old now (full_adder (nat_lt (i + 1) (length x)) c a b >>= (λ n. behind (made ++ n.0 ∷ []) (sum n.1 (drop (i + 1) x) (drop (i + 1) y))))
+unfolding sum
+sum_here {all} {old} {now} c x y made i a b width inside a-is b-is left =
+    bit_first made (full_adder (nat_lt (i + 1) (length x)) c a b) (λ n. n.0) (λ n. sum n.1 (drop (i + 1) x) (drop (i + 1) y))
+    (subst (λ (more : Bool). IsLeft all old now (behind made (full_adder more c a b >>= (λ n. sum n.1 (drop (i + 1) x) (drop (i + 1) y) >>= (λ w. return (n.0 ∷ w)))))) (follows_is x y (i + 1) width)
+    (subst₂ (λ (v w : List ℕ). IsLeft all old now (behind made (sum c v w))) (drop_here x i a inside a-is) (drop_here y i b (omega (arith, width, inside)) b-is) left))
+
+pub sum_whole : {all : Build (List ℕ)} {old now : Net} (c : ℕ) (x y made : List ℕ) (i : ℕ) → length x ≤ i → IsLeft all old now (behind made (sum c (drop i x) (drop i y))) → IsLeft all old now (return made)
+unfolding sum
+sum_whole {all} {old} {now} c x y made i past left =
+    all_bits made (subst (λ (w : List ℕ). IsLeft all old now (behind made (sum c w (drop i y)))) (drop_all i x past) left)

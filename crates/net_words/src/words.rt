@@ -12,6 +12,7 @@ use std::alloc::Global;
 pub fn inverted(alloc: Global, net: &mut NetBuilder, word: &[Node]) -> Result<Vec<Node>, NetFault>
     requires { AreThere net.old word.now }
     ensures builds { Builds (λ w. w.items) (spec.inverted word.now) net.old result net.new }
+    ensures width { IfOk result (λ w. length w.items ≡ length word.now) }
     ensures inside { IfOk result (λ w. AreThere net.new w.items) }
     ensures longer { length net.old.gates ≤ length net.new.gates }
 {
@@ -35,6 +36,7 @@ pub fn each(
     requires a { AreThere net.old a.now }
     requires b { AreThere net.old b.now }
     ensures builds { Builds (λ w. w.items) (spec.each op a.now b.now) net.old result net.new }
+    ensures width { IfOk result (λ w. length w.items ≡ length a.now) }
     ensures inside { IfOk result (λ w. AreThere net.new w.items) }
     ensures longer { length net.old.gates ≤ length net.new.gates }
 {
@@ -59,6 +61,7 @@ pub fn select(
     requires a { AreThere net.old a.now }
     requires b { AreThere net.old b.now }
     ensures builds { Builds (λ w. w.items) (spec.select s a.now b.now) net.old result net.new }
+    ensures width { IfOk result (λ w. length w.items ≡ length a.now) }
     ensures inside { IfOk result (λ w. AreThere net.new w.items) }
     ensures longer { length net.old.gates ≤ length net.new.gates }
 {

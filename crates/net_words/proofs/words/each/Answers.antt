@@ -1,4 +1,5 @@
-use Rattle.std.proofs.Common.{length, ◌<◌, arith, le_trans}
+use Rattle.std.proofs.Common.{length, ◌<◌, arith, le_trans, ◌∷◌, []}
+use Rattle.std.proofs.lemmas.List.{length-append}
 use Rattle.std.proofs.lemmas.List.Elements.{All-nil}
 use Rattle.net_words.specs.Words.{each}
 use Rattle.net_words.proofs.BuildLemmas.{no_bits, next, fault, done}
@@ -10,6 +11,7 @@ loop-i-init c = rw c.new-made.ensures.items (record {
   left = no_bits (each c.args.op c.args.a.now c.args.b.now) c.args.net.now;
   there = All-nil (λ n. n < length c.args.net.now.gates);
   longer = omega arith;
+  count = omega arith;
 })
 
 pub bit-requires-clause-a : goal.bit-requires-clause-a
@@ -26,6 +28,7 @@ loop-i-preserved c = rw c.in_ok-push.ensures.items (record {
   left = next _ _ (each_here c.args.op c.args.a.now c.args.b.now c.loop-i.made.items c.loop-i.i c.index-a-i.result c.index-b-i.result c.loop-i-test.true (omega (arith, c.requires.width)) c.index-a-i.is c.index-b-i.is c.loop-i.invariant.left) c.in_ok-n.ensures.builds;
   there = one_more c.loop-i.net c.bit.new.net c.loop-i.made.items c.in_ok-n.n c.loop-i.invariant.there c.in_ok-n.ensures.longer c.in_ok-n.ensures.inside;
   longer = le_trans c.loop-i.invariant.longer c.in_ok-n.ensures.longer;
+  count = omega (arith, length-append c.loop-i.made.items (c.in_ok-n.n ∷ []), c.loop-i.invariant.count);
 })
 
 pub returns-clause-builds : goal.returns-clause-builds

@@ -1,4 +1,4 @@
-use Rattle.std.proofs.Common.{◌≤◌, length, drop}
+use Rattle.std.proofs.Common.{◌≡◌, ◌≤◌, length, drop}
 use Rattle.net_words.specs.Builds.{AreThere, behind}
 use Rattle.net_words.specs.Words.{inverted}
 use Rattle.net_words.proofs.BuildLemmas.{IsLeft}
@@ -9,4 +9,5 @@ invariant-loop-i l = record {
   left : IsLeft (inverted l.word) l.fn.net l.net (behind l.made.items (inverted (drop l.i l.word)));
   there : AreThere l.net l.made.items;
   longer : length l.fn.net.gates ≤ length l.net.gates;
+  count : length l.made.items ≡ l.i;
 }
