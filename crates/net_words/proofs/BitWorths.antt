@@ -13,7 +13,7 @@ use Rattle.net_words.specs.Words.{bit_of}
 use Rattle.net_words.proofs.WorthLemmas.{Gives, gives_then, gives_put, gives_more}
 
 module _ (whole : List Numbered) (state : State) (found : List Tern) (valued : IsValuation whole state found) where
-  xnor_gives : (a b : ℕ) → Gives whole (xnor a b) (λ n. at found n ≡ not_of (xor_of (at found a) (at found b)))
+  pub xnor_gives : (a b : ℕ) → Gives whole (xnor a b) (λ n. at found n ≡ not_of (xor_of (at found a) (at found b)))
   unfolding xnor
   xnor_gives a b =
       gives_then whole _ _ _ _ (gives_put whole state found valued (Xor a b)) (λ d.

@@ -140,6 +140,17 @@ nothing_behind front gates = ap (λ w. Some (record { gates = gates; made = w })
 pub all_bits : {all : Build (List ℕ)} {old now : Net} (front : List ℕ) → IsLeft all old now (behind front (return [])) → IsLeft all old now (return front)
 all_bits {now = now} front is = record { grows = is.grows; left = nothing_behind front now.gates ∙ is.left }
 
+-- a bit that is there, in front of a word with one new bit
+kept_bit : {X : Type 0} (b : ℕ) (word : X → List ℕ) (o : Option (Built X))
+    → onward o (λ n gates. Some (record { gates = gates; made = b ∷ word n })) ≡ onward (onward o (λ n gates. Some (record { gates = gates; made = word n }))) (λ rest gates. Some (record { gates = gates; made = b ∷ rest }))
+kept_bit b word None = refl
+kept_bit b word (Some built) = refl
+
+pub bit_kept : {X : Type 0} (b : ℕ) (word : X → List ℕ) (step : Build X) (gates : List Numbered)
+    → (step >>= (λ n. return (b ∷ word n))) gates ≡ onward ((step >>= (λ n. return (word n))) gates) (λ rest gates'. Some (record { gates = gates'; made = b ∷ rest }))
+unfolding ◌>>=◌ return
+bit_kept b word step gates = kept_bit b word (step gates)
+
 full_if : (n : ℕ) (x : Built ℕ) → n ≡ most_nodes → (if n == most_nodes then None else Some x) ≡ None
 full_if n x is = rw (eq-eqb n most_nodes is) refl
 

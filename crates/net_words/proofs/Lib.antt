@@ -4,3 +4,4 @@ pub mod BitWorths
 mod WordSteps
 pub mod WordWorths
 pub mod SumWorths
+pub mod ComparisonWorths

@@ -1,16 +1,18 @@
 -- Serves the loops over words: what is left is one bit and the others, or nothing.
-use Rattle.std.proofs.Common.{◌≡◌, ℕ, Bool, true, false, nat_lt, ◌-◌, take, inl, inr, lt-ltb, le-ltb, zero, suc, ◌+◌, ◌<◌, ◌≤◌, All, List, [], ◌∷◌, ◌++◌, length, get_or, drop, refl, sym, ◌∙◌, ap, subst, subst₂, add-one, drop-cons, arith, lt_of_lt_of_le}
+use Rattle.std.proofs.Common.{◌≡◌, ℕ, Bool, true, false, nat_lt, ◌-◌, take, set, Some, inl, inr, lt-ltb, le-ltb, zero, suc, ◌+◌, ◌<◌, ◌≤◌, All, List, [], ◌∷◌, ◌++◌, length, get_or, drop, refl, sym, ◌∙◌, ap, subst, subst₂, add-one, drop-cons, arith, lt_of_lt_of_le}
 use Rattle.std.proofs.lemmas.Bool.{cases_lt}
 use Rattle.std.proofs.lemmas.List.{drop_all, take_all}
 use Rattle.std.proofs.lemmas.List.Elements.{All-push, All-get_or, All-nil}
 use Rattle.net_view.specs.declared.gate.Gate.TheVariants.{Const, Not}
 use Rattle.net_core.specs.Net.{Net}
 use Rattle.net_words.specs.declared.bits.Bitwise.{Bitwise}
-use Rattle.net_words.specs.Builds.{Build, ◌>>=◌, return, put, behind, AreThere}
+use Rattle.net_words.specs.Builds.{Build, onward, ◌>>=◌, return, put, behind, AreThere}
+use Rattle.net_view.specs.View.{Numbered}
 use Rattle.net_words.specs.Bits.{bit, mux}
 use Rattle.net_words.specs.Words.{inverted, each, select, reduced_from, reduced}
 use Rattle.net_words.specs.Sums.{full_adder, follows, sum}
-use Rattle.net_words.proofs.BuildLemmas.{IsLeft, bit_first, all_bits}
+use Rattle.net_words.specs.Comparisons.{lt_bit, lt_from, top_inverted}
+use Rattle.net_words.proofs.BuildLemmas.{IsLeft, all_left, bit_first, all_bits, bit_kept, grows_not}
 
 -- a word is still there in a net that has grown, and so is its next bit
 pub still_there : (old new : Net) (word : List ℕ) → AreThere old word → length old.gates ≤ length new.gates → AreThere new word
@@ -109,3 +111,30 @@ pub sum_whole : {all : Build (List ℕ)} {old now : Net} (c : ℕ) (x y made : L
 unfolding sum
 sum_whole {all} {old} {now} c x y made i past left =
     all_bits made (subst (λ (w : List ℕ). IsLeft all old now (behind made (sum c w (drop i y)))) (drop_all i x past) left)
+
+pub lt_here : {all : Build ℕ} {old now : Net} (so_far : ℕ) (x y : List ℕ) (i a b : ℕ) → i < length x → i < length y → a ≡ get_or x i a → b ≡ get_or y i b
+    → IsLeft all old now (lt_from so_far (drop i x) (drop i y)) → IsLeft all old now (lt_bit so_far a b >>= (λ n. lt_from n (drop (i + 1) x) (drop (i + 1) y)))
+unfolding lt_from
+lt_here {all} {old} {now} so_far x y i a b in_x in_y a-is b-is left =
+    subst₂ (λ (v w : List ℕ). IsLeft all old now (lt_from so_far v w)) (drop_here x i a in_x a-is) (drop_here y i b in_y b-is) left
+
+pub lt_whole : {all : Build ℕ} {old now : Net} (so_far : ℕ) (x y : List ℕ) (i : ℕ) → length x ≤ i → IsLeft all old now (lt_from so_far (drop i x) (drop i y)) → IsLeft all old now (return so_far)
+unfolding lt_from
+lt_whole {all} {old} {now} so_far x y i past left = subst (λ (w : List ℕ). IsLeft all old now (lt_from so_far w (drop i y))) (drop_all i x past) left
+
+-- the top bit is the last one
+top_at : (w : List ℕ) (t a : ℕ) → t + 1 ≡ length w → a ≡ get_or w t a → (gates : List Numbered) → (put (Not a) >>= (λ n. return (set w t n))) gates ≡ top_inverted w gates
+unfolding top_inverted ◌>>=◌ return
+top_at [] t a top is gates = absurd (omega (arith, top))
+top_at (b ∷ []) zero a top is gates = ap (λ m. (put (Not m) >>= (λ n. return (n ∷ []))) gates) is
+top_at (b ∷ []) (suc t) a top is gates = absurd (omega (arith, top))
+top_at (b ∷ d ∷ w) zero a top is gates = absurd (omega (arith, top))
+top_at (b ∷ d ∷ w) (suc t) a top is gates = bit_kept b (λ n. set (d ∷ w) t n) (put (Not a)) gates ∙ ap (λ o. onward o (λ rest gates'. Some (record { gates = gates'; made = b ∷ rest }))) (top_at (d ∷ w) t a (omega (arith, top)) is gates)
+
+pub top_here : (net : Net) (w : List ℕ) (t a : ℕ) → t + 1 ≡ length w → a ≡ get_or w t a → IsLeft (top_inverted w) net net (put (Not a) >>= (λ n. return (set w t n)))
+top_here net w t a top is = record { grows = grows_not net; left = top_at w t a top is net.gates }
+
+pub top_of_none : (net : Net) (w : List ℕ) → length w ≡ 0 → IsLeft (top_inverted w) net net (return w)
+unfolding top_inverted
+top_of_none net [] none = all_left (return []) net
+top_of_none net (a ∷ w) none = absurd (omega (arith, none))

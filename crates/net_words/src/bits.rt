@@ -31,7 +31,7 @@ pub(crate) fn put(net: &mut NetBuilder, gate: Gate<Node, Src>) -> Result<Node, N
 }
 
 /// `~(a ^ b)`
-fn xnor(net: &mut NetBuilder, a: Node, b: Node) -> Result<Node, NetFault>
+pub(crate) fn xnor(net: &mut NetBuilder, a: Node, b: Node) -> Result<Node, NetFault>
     requires a { a < length net.old.gates }
     requires b { b < length net.old.gates }
     ensures builds { Builds (λ n. n) (spec.xnor a b) net.old result net.new }

@@ -2,11 +2,17 @@
 #![tactic(auto)]
 
 mod bits;
+mod comparisons;
+mod laws;
 mod reductions;
 mod sums;
 mod words;
 
 pub use bits::{Bitwise, mux};
+pub use comparisons::{eq, lt, lt_signed};
+pub use laws::{
+    bits_are_worth, comparisons_are_worth, reductions_are_worth, sums_are_worth, words_are_worth,
+};
 pub use reductions::{all, any, parity};
 pub use sums::{add, neg, sub};
 pub use words::{each, inverted, select};

@@ -1,0 +1,46 @@
+//! What the gates are worth: laws of values, for whoever builds with them. They compute nothing.
+ghost use Rattle.std.specs.Prelude.{◌≡◌, ℕ, List, map};
+ghost use Rattle.rdc_tern.specs.Kleene.{mux_of};
+ghost use Rattle.rdc_tern.specs.Shifts.{select_of};
+ghost use Rattle.rdc_tern.specs.Words as word;
+ghost use Rattle.net_words.specs.declared.bits.Bitwise.{Bitwise};
+ghost use Rattle.net_words.specs.Builds.{IsWorth};
+ghost use Rattle.net_words.specs.Bits as bits;
+ghost use Rattle.net_words.specs.Words as words;
+ghost use Rattle.net_words.specs.Words.{bit_of, each_of};
+ghost use Rattle.net_words.specs.Sums as sums;
+ghost use Rattle.net_words.specs.Comparisons as comparisons;
+
+/// What operations of two bits, and the selection, are worth.
+pub fn bits_are_worth()
+    ensures operation { (op : Bitwise) (a b : ℕ) → IsWorth (bits.bit op a b) (λ v n. v n ≡ bit_of op (v a) (v b)) }
+    ensures selection { (s a b : ℕ) → IsWorth (bits.mux s a b) (λ v n. v n ≡ mux_of (v s) (v a) (v b)) }
+{}
+
+/// What operations bit by bit are worth.
+pub fn words_are_worth()
+    ensures inverse { (a : List ℕ) → IsWorth (words.inverted a) (λ v made. map v made ≡ word.inverted (map v a)) }
+    ensures operation { (op : Bitwise) (a b : List ℕ) → IsWorth (words.each op a b) (λ v made. map v made ≡ each_of op (map v a) (map v b)) }
+    ensures selection { (s : ℕ) (a b : List ℕ) → IsWorth (words.select s a b) (λ v made. map v made ≡ select_of (v s) (map v a) (map v b)) }
+{}
+
+/// What operations over all bits are worth.
+pub fn reductions_are_worth()
+    ensures any { (a : List ℕ) → IsWorth (words.any a) (λ v n. v n ≡ word.any_of (map v a)) }
+    ensures all { (a : List ℕ) → IsWorth (words.all a) (λ v n. v n ≡ word.all_of (map v a)) }
+    ensures parity { (a : List ℕ) → IsWorth (words.parity a) (λ v n. v n ≡ word.parity_of (map v a)) }
+{}
+
+/// What sums and differences are worth.
+pub fn sums_are_worth()
+    ensures sum { (a b : List ℕ) → IsWorth (sums.add a b) (λ v made. map v made ≡ word.add_of (map v a) (map v b)) }
+    ensures difference { (a b : List ℕ) → IsWorth (sums.sub a b) (λ v made. map v made ≡ word.sub_of (map v a) (map v b)) }
+    ensures negation { (a : List ℕ) → IsWorth (sums.neg a) (λ v made. map v made ≡ word.neg_of (map v a)) }
+{}
+
+/// What comparisons are worth.
+pub fn comparisons_are_worth()
+    ensures equal { (a b : List ℕ) → IsWorth (comparisons.eq a b) (λ v n. v n ≡ word.eq_of (map v a) (map v b)) }
+    ensures less { (a b : List ℕ) → IsWorth (comparisons.lt a b) (λ v n. v n ≡ word.lt_of (map v a) (map v b)) }
+    ensures signed_less { (a b : List ℕ) → IsWorth (comparisons.lt_signed a b) (λ v n. v n ≡ word.lt_signed_of (map v a) (map v b)) }
+{}
