@@ -5,3 +5,5 @@ mod WordSteps
 pub mod WordWorths
 pub mod SumWorths
 pub mod ComparisonWorths
+mod ShiftSteps
+pub mod ShiftWorths

@@ -1,5 +1,7 @@
 -- What gates of sums are worth.
-use Rattle.std.proofs.Common.{◌≡◌, ℕ, Bool, true, false, List, [], ◌∷◌, map, length, replicate, refl, sym, ◌∙◌, ap}
+use Rattle.std.proofs.Common.{◌≡◌, ℕ, ◌+◌, Bool, true, false, List, [], ◌∷◌, map, length, replicate, refl, sym, ◌∙◌, ap}
+use Rattle.std.proofs.lemmas.List.{length-map}
+use Rattle.rdc_tern.proofs.ShiftSteps.{length-raised}
 use Rattle.rdc_tern.specs.declared.value.Tern.{Tern}
 use Rattle.rdc_tern.specs.declared.value.Tern.TheVariants.{Zero, One}
 use Rattle.rdc_tern.specs.Kleene.{not_of, and_of, or_of, xor_of}
@@ -9,10 +11,14 @@ use Rattle.net_view.specs.declared.gate.Gate.TheVariants.{Const, And, Or, Xor}
 use Rattle.net_view.specs.View.{Numbered}
 use Rattle.net_view.specs.Values.{State, at, IsValuation}
 use Rattle.net_words.specs.Builds.{Build, ◌>>=◌, return, put}
-use Rattle.net_words.specs.Words.{inverted}
-use Rattle.net_words.specs.Sums.{carry_from, carry_if, full_adder, follows, sum, add, sub, neg}
+use Rattle.net_words.specs.Words.{inverted, each, each_of}
+use Rattle.net_words.specs.Shifts.{raised}
+use Rattle.net_words.specs.declared.bits.Bitwise.TheVariants as op
+use Rattle.net_words.specs.Sums.{carry_from, carry_if, full_adder, follows, sum, add, sub, neg, row, rows, mul}
 use Rattle.net_words.proofs.WorthLemmas.{Gives, gives_return, gives_then, gives_put, gives_more}
-use Rattle.net_words.proofs.WordWorths.{inverted_gives}
+use Rattle.net_words.proofs.WordWorths.{inverted_gives, each_gives}
+use Rattle.net_words.proofs.ShiftWorths.{raised_values}
+use Rattle.rdc_tern.specs.Shifts as shift
 
 -- the carry behind the last bit is of no account
 sum_same : (v : ℕ → Tern) (c d : Tern) (x y : List ℕ) → (follows x y ≡ true → c ≡ d) → sum_of c (map v x) (map v y) ≡ sum_of d (map v x) (map v y)
@@ -23,6 +29,17 @@ sum_same v c d (a ∷ x) (b ∷ y) same = ap (λ e. sum_of e (map v (a ∷ x)) (
 values_alike : (v : ℕ → Tern) (low : ℕ) (w : List ℕ) → v low ≡ Zero → map v (replicate (length w) low) ≡ word.zeros (map v w)
 values_alike v low [] is = refl
 values_alike v low (a ∷ w) is = λ j. is j ∷ values_alike v low w is j
+
+-- each bit AND one bit
+masked_is : (v : ℕ → Tern) (bit : ℕ) (x : List Tern) → each_of op.And x (map v (replicate (length x) bit)) ≡ word.masked (v bit) x
+masked_is v bit [] = refl
+masked_is v bit (a ∷ x) = ap (λ t. and_of a (v bit) ∷ t) (masked_is v bit x)
+
+part_is : (v : ℕ → Tern) (low i bit : ℕ) (a : List ℕ) → v low ≡ Zero → each_of op.And (map v (raised low i a)) (map v (replicate (length a) bit)) ≡ word.masked (v bit) (shift.raised Zero i (map v a))
+part_is v low i bit a low-is =
+    let up : map v (raised low i a) ≡ shift.raised Zero i (map v a) = raised_values v low i a ∙ ap (λ z. shift.raised z i (map v a)) low-is in
+    let wide : length a ≡ length (shift.raised Zero i (map v a)) = sym (length-raised Zero i (map v a) ∙ length-map a v) in
+    (λ j. each_of op.And (up j) (map v (replicate (wide j) bit))) ∙ masked_is v bit (shift.raised Zero i (map v a))
 
 module _ (whole : List Numbered) (state : State) (found : List Tern) (valued : IsValuation whole state found) where
   carry_from_gives : (c a b differs : ℕ) → Gives whole (carry_from c a b differs) (λ n. at found n ≡ or_of (and_of (at found a) (at found b)) (and_of (at found c) (at found differs)))
@@ -79,3 +96,27 @@ module _ (whole : List Numbered) (state : State) (found : List Tern) (valued : I
       gives_then whole _ _ _ _ (gives_put whole state found valued (Const false)) (λ zero.
       gives_more whole _ _ _ (sub_gives (replicate (length a) zero) a) (λ made made-is zero-is.
       made-is ∙ ap (λ z. word.sub_of z (map (at found) a)) (values_alike (at found) zero a zero-is)))
+
+  row_gives : (low i bit : ℕ) (so_far a : List ℕ)
+      → Gives whole (row low i bit so_far a) (λ made. at found low ≡ Zero → map (at found) made ≡ word.add_of (map (at found) so_far) (word.masked (at found bit) (shift.raised Zero i (map (at found) a))))
+  unfolding row
+  row_gives low i bit so_far a =
+      gives_then whole _ _ _ _ (each_gives whole state found valued op.And (raised low i a) (replicate (length a) bit)) (λ part.
+      gives_more whole _ _ _ (sum_gives low so_far part) (λ made made-is part-is low-is.
+      made-is ∙ (λ j. sum_of (low-is j) (map (at found) so_far) ((part-is ∙ part_is (at found) low i bit a low-is) j))))
+
+  rows_gives : (low : ℕ) (so_far a : List ℕ) (i : ℕ) (b : List ℕ)
+      → Gives whole (rows low so_far a i b) (λ made. at found low ≡ Zero → map (at found) made ≡ word.products_of (map (at found) so_far) (map (at found) a) i (map (at found) b))
+  unfolding rows
+  rows_gives low so_far a i [] = gives_return whole _ so_far (λ low-is. refl)
+  rows_gives low so_far a i (bit ∷ b) =
+      gives_then whole _ _ _ _ (row_gives low i bit so_far a) (λ next.
+      gives_more whole _ _ _ (rows_gives low next a (i + 1) b) (λ made made-is next-is low-is.
+      made-is low-is ∙ ap (λ t. word.products_of t (map (at found) a) (i + 1) (map (at found) b)) (next-is low-is)))
+
+  pub mul_gives : (a b : List ℕ) → Gives whole (mul a b) (λ made. map (at found) made ≡ word.mul_of (map (at found) a) (map (at found) b))
+  unfolding mul
+  mul_gives a b =
+      gives_then whole _ _ _ _ (gives_put whole state found valued (Const false)) (λ low.
+      gives_more whole _ _ _ (rows_gives low (replicate (length a) low) a 0 b) (λ made made-is low-is.
+      made-is low-is ∙ ap (λ z. word.products_of z (map (at found) a) 0 (map (at found) b)) (values_alike (at found) low a low-is)))

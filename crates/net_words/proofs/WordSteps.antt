@@ -24,7 +24,7 @@ one_more old new word n there longer inside = All-push (λ n. n < length new.gat
 pub bit_there : (old now : Net) (word : List ℕ) (i a : ℕ) → AreThere old word → length old.gates ≤ length now.gates → i < length word → a ≡ get_or word i a → a < length now.gates
 bit_there old now word i a there longer inside is = subst (λ (n : ℕ). n < length now.gates) (sym is) (still_there old now word there longer i a inside)
 
-drop_here : (word : List ℕ) (i a : ℕ) → i < length word → a ≡ get_or word i a → drop i word ≡ a ∷ drop (i + 1) word
+pub drop_here : (word : List ℕ) (i a : ℕ) → i < length word → a ≡ get_or word i a → drop i word ≡ a ∷ drop (i + 1) word
 drop_here word i a inside is = drop-cons word i a inside ∙ (λ j. sym is j ∷ drop (sym (add-one i) j) word)
 
 pub inverted_here : {all : Build (List ℕ)} {old now : Net} (word made : List ℕ) (i a : ℕ) → i < length word → a ≡ get_or word i a

@@ -1,5 +1,6 @@
 pub mod Builds
 pub mod Bits
 pub mod Words
+pub mod Shifts
 pub mod Sums
 pub mod Comparisons

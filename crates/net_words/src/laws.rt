@@ -1,13 +1,14 @@
 //! What the gates are worth: laws of values, for whoever builds with them. They compute nothing.
 ghost use Rattle.std.specs.Prelude.{◌≡◌, ℕ, List, map};
 ghost use Rattle.rdc_tern.specs.Kleene.{mux_of};
-ghost use Rattle.rdc_tern.specs.Shifts.{select_of};
+ghost use Rattle.rdc_tern.specs.Shifts.{select_of, shl_of, shr_of, sar_of};
 ghost use Rattle.rdc_tern.specs.Words as word;
 ghost use Rattle.net_words.specs.declared.bits.Bitwise.{Bitwise};
 ghost use Rattle.net_words.specs.Builds.{IsWorth};
 ghost use Rattle.net_words.specs.Bits as bits;
 ghost use Rattle.net_words.specs.Words as words;
 ghost use Rattle.net_words.specs.Words.{bit_of, each_of};
+ghost use Rattle.net_words.specs.Shifts as shifts;
 ghost use Rattle.net_words.specs.Sums as sums;
 ghost use Rattle.net_words.specs.Comparisons as comparisons;
 
@@ -31,10 +32,11 @@ pub fn reductions_are_worth()
     ensures parity { (a : List ℕ) → IsWorth (words.parity a) (λ v n. v n ≡ word.parity_of (map v a)) }
 {}
 
-/// What sums and differences are worth.
+/// What sums, differences and products are worth.
 pub fn sums_are_worth()
     ensures sum { (a b : List ℕ) → IsWorth (sums.add a b) (λ v made. map v made ≡ word.add_of (map v a) (map v b)) }
     ensures difference { (a b : List ℕ) → IsWorth (sums.sub a b) (λ v made. map v made ≡ word.sub_of (map v a) (map v b)) }
+    ensures product { (a b : List ℕ) → IsWorth (sums.mul a b) (λ v made. map v made ≡ word.mul_of (map v a) (map v b)) }
     ensures negation { (a : List ℕ) → IsWorth (sums.neg a) (λ v made. map v made ≡ word.neg_of (map v a)) }
 {}
 
@@ -43,4 +45,11 @@ pub fn comparisons_are_worth()
     ensures equal { (a b : List ℕ) → IsWorth (comparisons.eq a b) (λ v n. v n ≡ word.eq_of (map v a) (map v b)) }
     ensures less { (a b : List ℕ) → IsWorth (comparisons.lt a b) (λ v n. v n ≡ word.lt_of (map v a) (map v b)) }
     ensures signed_less { (a b : List ℕ) → IsWorth (comparisons.lt_signed a b) (λ v n. v n ≡ word.lt_signed_of (map v a) (map v b)) }
+{}
+
+/// What shifts are worth.
+pub fn shifts_are_worth()
+    ensures left { (a amount : List ℕ) → IsWorth (shifts.shl a amount) (λ v made. map v made ≡ shl_of (map v a) (map v amount)) }
+    ensures right { (a amount : List ℕ) → IsWorth (shifts.shr a amount) (λ v made. map v made ≡ shr_of (map v a) (map v amount)) }
+    ensures signed_right { (a amount : List ℕ) → IsWorth (shifts.sar a amount) (λ v made. map v made ≡ sar_of (map v a) (map v amount)) }
 {}

@@ -63,7 +63,7 @@ pub fn neg(alloc: Global, net: &mut NetBuilder, a: &[Node]) -> Result<Vec<Node>,
 }
 
 /// A word whose bits are all one node.
-fn repeated(alloc: Global, node: Node, count: usize) -> Result<Vec<Node>, NetFault>
+pub(crate) fn repeated(alloc: Global, node: Node, count: usize) -> Result<Vec<Node>, NetFault>
     ensures items { IfOk result (λ w. w.items ≡ replicate count node) }
     ensures fault { IfErr result (λ fault. fault ≡ Memory) }
 {
@@ -75,7 +75,7 @@ fn repeated(alloc: Global, node: Node, count: usize) -> Result<Vec<Node>, NetFau
 }
 
 /// The bits of a sum from one carry on.
-fn sum(
+pub(crate) fn sum(
     alloc: Global,
     net: &mut NetBuilder,
     first: Node,
