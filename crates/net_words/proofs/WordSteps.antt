@@ -10,7 +10,7 @@ use Rattle.net_words.specs.Builds.{Build, onward, ◌>>=◌, return, put, behind
 use Rattle.net_view.specs.View.{Numbered}
 use Rattle.net_words.specs.Bits.{bit, mux}
 use Rattle.net_words.specs.Words.{inverted, each, select, reduced_from, reduced}
-use Rattle.net_words.specs.Sums.{full_adder, follows, sum}
+use Rattle.net_words.specs.Sums.{full_adder, follows, sum, row, rows}
 use Rattle.net_words.specs.Comparisons.{lt_bit, lt_from, top_inverted}
 use Rattle.net_words.proofs.BuildLemmas.{IsLeft, all_left, bit_first, all_bits, bit_kept, grows_not}
 
@@ -138,3 +138,12 @@ pub top_of_none : (net : Net) (w : List ℕ) → length w ≡ 0 → IsLeft (top_
 unfolding top_inverted
 top_of_none net [] none = all_left (return []) net
 top_of_none net (a ∷ w) none = absurd (omega (arith, none))
+
+pub rows_here : {all : Build (List ℕ)} {old now : Net} (low : ℕ) (so_far x y : List ℕ) (i b : ℕ) → i < length y → b ≡ get_or y i b
+    → IsLeft all old now (rows low so_far x i (drop i y)) → IsLeft all old now (row low i b so_far x >>= (λ next. rows low next x (i + 1) (drop (i + 1) y)))
+unfolding rows
+rows_here {all} {old} {now} low so_far x y i b inside b-is left = subst (λ (w : List ℕ). IsLeft all old now (rows low so_far x i w)) (drop_here y i b inside b-is) left
+
+pub rows_whole : {all : Build (List ℕ)} {old now : Net} (low : ℕ) (so_far x y : List ℕ) (i : ℕ) → length y ≤ i → IsLeft all old now (rows low so_far x i (drop i y)) → IsLeft all old now (return so_far)
+unfolding rows
+rows_whole {all} {old} {now} low so_far x y i past left = subst (λ (w : List ℕ). IsLeft all old now (rows low so_far x i w)) (drop_all i y past) left
