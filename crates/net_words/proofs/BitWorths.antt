@@ -1,16 +1,16 @@
 -- What gates over single nodes are worth.
-use Rattle.std.proofs.Common.{◌≡◌, ℕ, List, refl, sym, ◌∙◌, ap}
+use Rattle.std.proofs.Common.{◌≡◌, ℕ, List, ◌∙◌, ap}
 use Rattle.rdc_tern.specs.declared.value.Tern.{Tern}
 use Rattle.rdc_tern.specs.Kleene.{not_of, and_of, or_of, xor_of, mux_of}
-use Rattle.net_view.specs.declared.gate.Gate.TheVariants.{Const, Not, And, Or, Xor}
+use Rattle.net_view.specs.declared.gate.Gate.TheVariants.{Not, And, Or, Xor}
 use Rattle.net_view.specs.View.{Numbered}
 use Rattle.net_view.specs.Values.{State, at, IsValuation}
 use Rattle.net_words.specs.declared.bits.Bitwise.{Bitwise}
 use Rattle.net_words.specs.declared.bits.Bitwise.TheVariants as op
-use Rattle.net_words.specs.Builds.{Build, ◌>>=◌, return, put}
+use Rattle.net_words.specs.Builds.{Gives}
 use Rattle.net_words.specs.Bits.{xnor, bit, mux}
 use Rattle.net_words.specs.Words.{bit_of}
-use Rattle.net_words.proofs.WorthLemmas.{Gives, gives_then, gives_put, gives_more}
+use Rattle.net_words.proofs.WorthLemmas.{gives_then, gives_put, gives_more}
 
 module _ (whole : List Numbered) (state : State) (found : List Tern) (valued : IsValuation whole state found) where
   pub xnor_gives : (a b : ℕ) → Gives whole (xnor a b) (λ n. at found n ≡ not_of (xor_of (at found a) (at found b)))

@@ -77,19 +77,6 @@ fault {f = f} {g = g} {all = all} {old = old} {now = now} {new = new} {e = e} {r
     (record { grows = grows_on old now new is.grows built.grows; answers = answers_fault f g b k all old now new e is.left built.answers })
 fault {r = Ok x} b k is built same = absurd same.1
 
--- no memory for what is built
-pub lost : {A B X Y : Type 0} {f : A → X} {g : B → Y} {all rest : Build Y} {b : Build X} {old now new : Net} {a : A} {r : Result B NetFault}
-    → IsLeft all old now rest → Builds f b now (Ok a) new → IsErr r × IsErrAnd r (λ x. x ≡ Memory) → Builds g all old r new
-lost {g = g} {all = all} {old = old} {now = now} {new = new} {r = Err x} is built same =
-    subst (λ (x' : NetFault). Builds g all old (Err x') new) (sym same.1) (record { grows = grows_on old now new is.grows built.grows; answers = tt })
-lost {r = Ok x} is built same = absurd same.1
-
--- no memory before anything is built
-pub no_memory : {B Y : Type 0} {g : B → Y} {all : Build Y} {old : Net} {r : Result B NetFault} → IsErr r × IsErrAnd r (λ x. x ≡ Memory) → Builds g all old r old
-no_memory {g = g} {all = all} {old = old} {r = Err x} same =
-    subst (λ (x' : NetFault). Builds g all old (Err x') old) (sym same.1) (record { grows = grows_not old; answers = tt })
-no_memory {r = Ok x} same = absurd same.1
-
 return_is : {X : Type 0} (x : X) (gates : List Numbered) → return x gates ≡ Some (record { gates = gates; made = x })
 unfolding return
 return_is x gates = refl

@@ -1,18 +1,16 @@
 -- What gates of comparisons are worth.
-use Rattle.std.proofs.Common.{◌≡◌, ℕ, false, List, [], ◌∷◌, map, refl, sym, ◌∙◌, ap}
+use Rattle.std.proofs.Common.{◌≡◌, ℕ, false, List, [], ◌∷◌, map, refl, ◌∙◌, ap}
 use Rattle.rdc_tern.specs.declared.value.Tern.{Tern}
-use Rattle.rdc_tern.specs.declared.value.Tern.TheVariants.{Zero}
 use Rattle.rdc_tern.specs.Kleene.{not_of, and_of, or_of, xor_of}
 use Rattle.rdc_tern.specs.Words as word
 use Rattle.net_view.specs.declared.gate.Gate.TheVariants.{Const, Not, And, Or}
 use Rattle.net_view.specs.View.{Numbered}
 use Rattle.net_view.specs.Values.{State, at, IsValuation}
 use Rattle.net_words.specs.declared.bits.Bitwise.TheVariants as op
-use Rattle.net_words.specs.Builds.{Build, ◌>>=◌, return, put}
-use Rattle.net_words.specs.Bits.{xnor}
-use Rattle.net_words.specs.Words.{each, all, each_of}
+use Rattle.net_words.specs.Builds.{Gives}
+use Rattle.net_words.specs.Words.{each_of}
 use Rattle.net_words.specs.Comparisons.{eq, lt_bit, lt_from, lt, top_inverted, lt_signed}
-use Rattle.net_words.proofs.WorthLemmas.{Gives, gives_return, gives_then, gives_put, gives_more}
+use Rattle.net_words.proofs.WorthLemmas.{gives_return, gives_then, gives_put, gives_more}
 use Rattle.net_words.proofs.BitWorths.{xnor_gives}
 use Rattle.net_words.proofs.WordWorths.{each_gives, all_gives}
 

@@ -1,7 +1,7 @@
 pub mod BuildLemmas
 pub mod WorthLemmas
 pub mod BitWorths
-mod WordSteps
+pub mod WordSteps
 pub mod WordWorths
 pub mod SumWorths
 pub mod ComparisonWorths

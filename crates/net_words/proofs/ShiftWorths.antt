@@ -3,7 +3,7 @@ use Rattle.std.proofs.Common.{◌≡◌, ℕ, zero, suc, ◌+◌, ◌-◌, ◌^�
 use Rattle.std.proofs.lemmas.List.{length-map, get_or-map, map-append, take-map}
 use Rattle.std.proofs.Math.ListN.{get_or-map as get_value}
 use Rattle.rdc_tern.specs.declared.value.Tern.{Tern}
-use Rattle.rdc_tern.specs.declared.value.Tern.TheVariants.{Zero, Unsettled}
+use Rattle.rdc_tern.specs.declared.value.Tern.TheVariants.{Unsettled}
 use Rattle.rdc_tern.specs.Shifts as word
 use Rattle.rdc_tern.proofs.KeptLemmas.{nothing_shifts}
 use Rattle.net_view.specs.declared.gate.Gate.TheVariants.{Const}
@@ -11,10 +11,9 @@ use Rattle.net_view.specs.View.{Numbered}
 use Rattle.net_view.specs.Values.{State, at, IsValuation}
 use Rattle.net_words.specs.declared.shifts.Toward.{Toward}
 use Rattle.net_words.specs.declared.shifts.Toward.TheVariants.{Top, Bottom}
-use Rattle.net_words.specs.Builds.{Build, ◌>>=◌, return, put}
-use Rattle.net_words.specs.Words.{select}
+use Rattle.net_words.specs.Builds.{Gives}
 use Rattle.net_words.specs.Shifts.{raised, lowered, moved, shift_from, top_of, shl, shr, sar}
-use Rattle.net_words.proofs.WorthLemmas.{Gives, gives_return, gives_then, gives_put, gives_more}
+use Rattle.net_words.proofs.WorthLemmas.{gives_return, gives_then, gives_put, gives_more}
 use Rattle.net_words.proofs.WordWorths.{select_gives}
 
 fill_values : (v : ℕ → Tern) (n fill : ℕ) → map v (replicate n fill) ≡ replicate n (v fill)

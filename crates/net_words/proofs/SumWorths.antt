@@ -3,19 +3,19 @@ use Rattle.std.proofs.Common.{◌≡◌, ℕ, ◌+◌, Bool, true, false, List, 
 use Rattle.std.proofs.lemmas.List.{length-map}
 use Rattle.rdc_tern.proofs.ShiftSteps.{length-raised}
 use Rattle.rdc_tern.specs.declared.value.Tern.{Tern}
-use Rattle.rdc_tern.specs.declared.value.Tern.TheVariants.{Zero, One}
-use Rattle.rdc_tern.specs.Kleene.{not_of, and_of, or_of, xor_of}
+use Rattle.rdc_tern.specs.declared.value.Tern.TheVariants.{Zero}
+use Rattle.rdc_tern.specs.Kleene.{and_of, or_of, xor_of}
 use Rattle.rdc_tern.specs.Words as word
 use Rattle.rdc_tern.specs.Words.{sum_of, sum_bit, carry_of}
 use Rattle.net_view.specs.declared.gate.Gate.TheVariants.{Const, And, Or, Xor}
 use Rattle.net_view.specs.View.{Numbered}
 use Rattle.net_view.specs.Values.{State, at, IsValuation}
-use Rattle.net_words.specs.Builds.{Build, ◌>>=◌, return, put}
-use Rattle.net_words.specs.Words.{inverted, each, each_of}
+use Rattle.net_words.specs.Builds.{Gives}
+use Rattle.net_words.specs.Words.{each_of}
 use Rattle.net_words.specs.Shifts.{raised}
 use Rattle.net_words.specs.declared.bits.Bitwise.TheVariants as op
 use Rattle.net_words.specs.Sums.{carry_from, carry_if, full_adder, follows, sum, add, sub, neg, row, rows, mul}
-use Rattle.net_words.proofs.WorthLemmas.{Gives, gives_return, gives_then, gives_put, gives_more}
+use Rattle.net_words.proofs.WorthLemmas.{gives_return, gives_then, gives_put, gives_more}
 use Rattle.net_words.proofs.WordWorths.{inverted_gives, each_gives}
 use Rattle.net_words.proofs.ShiftWorths.{raised_values}
 use Rattle.rdc_tern.specs.Shifts as shift

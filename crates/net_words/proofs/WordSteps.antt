@@ -1,8 +1,8 @@
 -- Serves the loops over words: what is left is one bit and the others, or nothing.
-use Rattle.std.proofs.Common.{◌≡◌, ℕ, Bool, true, false, nat_lt, ◌-◌, take, set, Some, inl, inr, lt-ltb, le-ltb, zero, suc, ◌+◌, ◌<◌, ◌≤◌, All, List, [], ◌∷◌, ◌++◌, length, get_or, drop, refl, sym, ◌∙◌, ap, subst, subst₂, add-one, drop-cons, arith, lt_of_lt_of_le}
+use Rattle.std.proofs.Common.{◌≡◌, ℕ, Bool, true, false, nat_lt, ◌-◌, take, set, Some, inl, inr, lt-ltb, le-ltb, zero, suc, ◌+◌, ◌<◌, ◌≤◌, List, [], ◌∷◌, ◌++◌, length, get_or, drop, refl, sym, ◌∙◌, ap, subst, subst₂, add-one, drop-cons, arith, lt_of_lt_of_le}
 use Rattle.std.proofs.lemmas.Bool.{cases_lt}
 use Rattle.std.proofs.lemmas.List.{drop_all, take_all}
-use Rattle.std.proofs.lemmas.List.Elements.{All-push, All-get_or, All-nil}
+use Rattle.std.proofs.lemmas.List.Elements.{All-push}
 use Rattle.net_view.specs.declared.gate.Gate.TheVariants.{Const, Not}
 use Rattle.net_core.specs.Net.{Net}
 use Rattle.net_words.specs.declared.bits.Bitwise.{Bitwise}

@@ -2,7 +2,7 @@
 use Rattle.std.proofs.Common.{◌≡◌, ℕ, Bool, true, false, List, [], ◌∷◌, map, refl, sym, ◌∙◌, ap, rules}
 use Rattle.rdc_tern.specs.declared.value.Tern.{Tern}
 use Rattle.rdc_tern.specs.declared.value.Tern.TheVariants.{Zero, One}
-use Rattle.rdc_tern.specs.Kleene.{not_of, and_of, or_of, xor_of, mux_of}
+use Rattle.rdc_tern.specs.Kleene.{and_of, or_of, xor_of}
 use Rattle.rdc_tern.specs.Shifts.{select_of}
 use Rattle.rdc_tern.specs.Words as word
 use Rattle.net_view.specs.declared.gate.Gate.TheVariants.{Const, Not}
@@ -10,10 +10,9 @@ use Rattle.net_view.specs.View.{Numbered}
 use Rattle.net_view.specs.Values.{State, at, settled, IsValuation}
 use Rattle.net_words.specs.declared.bits.Bitwise.{Bitwise}
 use Rattle.net_words.specs.declared.bits.Bitwise.TheVariants as op
-use Rattle.net_words.specs.Builds.{Build, ◌>>=◌, return, put}
-use Rattle.net_words.specs.Bits.{bit, mux}
+use Rattle.net_words.specs.Builds.{Gives}
 use Rattle.net_words.specs.Words.{inverted, each, select, reduced_from, reduced, any, all, parity, bit_of, each_of}
-use Rattle.net_words.proofs.WorthLemmas.{Gives, gives_return, gives_then, gives_put, gives_more}
+use Rattle.net_words.proofs.WorthLemmas.{gives_return, gives_then, gives_put, gives_more}
 use Rattle.net_words.proofs.BitWorths.{bit_gives, mux_gives}
 
 or_none : (a : Tern) → or_of a Zero ≡ a

@@ -1,14 +1,14 @@
 -- Serves specs/Builds.antt: what is built is worth in the whole net, step by step.
-use Rattle.std.proofs.Common.{◌≡◌, ℕ, Bool, true, false, List, [], ◌∷◌, ◌++◌, length, append_assoc, append-nil, refl, sym, ◌∙◌, ap, subst, Option, Some, None, if◌then◌else◌, ◌==◌}
+use Rattle.std.proofs.Common.{◌≡◌, ℕ, Bool, true, false, List, [], ◌∷◌, length, append_assoc, refl, sym, ◌∙◌, subst, Option, Some, None, if◌then◌else◌, ◌==◌}
 use Rattle.rdc_tern.specs.declared.value.Tern.{Tern}
 use Rattle.net_view.specs.View.{Numbered}
 use Rattle.net_view.specs.Values.{State, at, gate_value, IsValuation}
 use Rattle.net_core.specs.declared.folds.Made.{Made}
 use Rattle.net_core.specs.declared.folds.Made.TheVariants.{There, New}
-use Rattle.net_core.specs.Folds.{folded, added, node_of, HasValue}
+use Rattle.net_core.specs.Folds.{folded, added, node_of}
 use Rattle.net_core.specs.Net.{most_nodes}
 use Rattle.net_core.proofs.FoldLemmas.{added_value}
-use Rattle.net_words.specs.Builds.{Built, Build, onward, ◌>>=◌, return, put, Begins, IsWorth}
+use Rattle.net_words.specs.Builds.{Built, Build, onward, ◌>>=◌, return, put, Begins, Gives}
 
 some_built : {X : Type 0} (a b : Built X) → Some a ≡ Some b → a ≡ b
 some_built a b e = cc
@@ -26,10 +26,6 @@ built_if false x built is = some_built x built is
 begins_added : (gates whole : List Numbered) (made : Made) → Begins (added gates made) whole → Begins gates whole
 begins_added gates whole (There n) begins = begins
 begins_added gates whole (New g) begins = (g ∷ begins.0, sym (append_assoc gates (g ∷ []) begins.0) ∙ begins.1)
-
--- in a net and a state: what is built in front of the whole begins it too, and what is made is P
-abbrev pub Gives : List Numbered → {X : Type 0} → Build X → (X → Type 0) → Type 0
-Gives whole {X} b P = (gates : List Numbered) (built : Built X) → b gates ≡ Some built → Begins built.gates whole → Begins gates whole × P built.made
 
 pub gives_return : (whole : List Numbered) {X : Type 0} (P : X → Type 0) (x : X) → P x → Gives whole (return x) P
 unfolding return
@@ -58,8 +54,3 @@ gives_put whole state found valued g gates built is begins =
     let front : Begins (added gates made) whole = subst (λ (b : Built ℕ). Begins b.gates whole) (sym same) begins in
     let value = added_value gates g front.0 state found (subst (λ (all : List Numbered). IsValuation all state found) (sym front.1) valued) in
     (begins_added gates whole made front, subst (λ (b : Built ℕ). at found b.made ≡ gate_value state (at found) g) same value)
-
--- in every net and state
-pub worth_of : {X : Type 0} (b : Build X) (P : State → X → Type 0)
-    → ((whole : List Numbered) (state : State) (found : List Tern) → IsValuation whole state found → Gives whole b (P (at found))) → IsWorth b P
-worth_of b P given gates built is more state found valued = (given (built.gates ++ more) state found valued gates built is (more, refl)).1

@@ -5,7 +5,7 @@ use Rattle.std.specs.Prelude.{ℕ}
 use Rattle.net_view.specs.declared.gate.Gate.TheVariants.{Not, And, Or, Xor}
 use Rattle.net_words.specs.declared.bits.Bitwise.{Bitwise}
 use Rattle.net_words.specs.declared.bits.Bitwise.TheVariants as op
-use Rattle.net_words.specs.Builds.{Build, ◌>>=◌, return, put}
+use Rattle.net_words.specs.Builds.{Build, ◌>>=◌, put}
 
 -- not (a xor b)
 unfoldable pub xnor : ℕ → ℕ → Build ℕ

@@ -2,8 +2,7 @@
 --   Built, Build              what is made of the gates that are there, or nothing where the net is full
 --   return, b >>= f, put      nothing is added, one step behind another, one gate
 --   behind                    a word built behind nodes that are there
---   IsWorth                   what the values of what is made are
---   Begins                    a list in front of another
+--   Begins, Gives, IsWorth    what is built stays in front, and is worth so much in every net and state
 --   AreThere, Grows, Builds   what a call on a builder does that builds so
 use Rattle.std.specs.Prelude.{◌≡◌, ℕ, ◌<◌, List, All, ◌++◌, length, Option, Some, None, Result, Ok, Err, if◌then◌else◌, ◌==◌}
 use Rattle.rdc_tern.specs.declared.value.Tern.{Tern}
@@ -49,11 +48,13 @@ behind front b = b >>= (λ rest. return (front ++ rest))
 abbrev pub Begins : List Numbered → List Numbered → Type 0
 Begins front all = (more : List Numbered) × (front ++ more ≡ all)
 
--- in every net that begins with the gates built, and in every ternary state, what is made is as P says of the nodes' values
+-- in a net that begins with the gates built: it begins with those that were there, and what is made is P
+abbrev pub Gives : {X : Type 0} → List Numbered → Build X → (X → Type 0) → Type 0
+Gives {X} whole build P = (gates : List Numbered) (built : Built X) → build gates ≡ Some built → Begins built.gates whole → Begins gates whole × P built.made
+
+-- the same in every net, and in every ternary state, where P speaks of the values of the nodes
 abbrev pub IsWorth : {X : Type 0} → Build X → (State → X → Type 0) → Type 0
-IsWorth {X} build P =
-    (gates : List Numbered) (built : Built X) → build gates ≡ Some built →
-    (more : List Numbered) (state : State) (found : List Tern) → IsValuation (built.gates ++ more) state found → P (at found) built.made
+IsWorth build P = (whole : List Numbered) (state : State) (found : List Tern) → IsValuation whole state found → Gives whole build (P (at found))
 
 -- each node of a word is one of the net
 abbrev pub AreThere : Net → List ℕ → Type 0

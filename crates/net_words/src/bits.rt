@@ -20,8 +20,8 @@ pub enum Bitwise {
     Xnor,
 }
 
-/// One gate.
-pub(crate) fn put(net: &mut NetBuilder, gate: Gate<Node, Src>) -> Result<Node, NetFault>
+/// One gate, or the node that it folds to.
+pub fn put(net: &mut NetBuilder, gate: Gate<Node, Src>) -> Result<Node, NetFault>
     requires { MayAdd (length net.old.gates) gate }
     ensures builds { Builds (λ n. n) (spec_put gate) net.old result net.new }
     ensures inside { IfOk result (λ n. n < length net.new.gates) }

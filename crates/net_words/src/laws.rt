@@ -1,16 +1,27 @@
 //! What the gates are worth: laws of values, for whoever builds with them. They compute nothing.
-ghost use Rattle.std.specs.Prelude.{◌≡◌, ℕ, List, map};
-ghost use Rattle.rdc_tern.specs.Kleene.{mux_of};
+ghost use Rattle.std.specs.Prelude.{◌≡◌, ℕ, Bool, List, map};
+ghost use Rattle.rdc_tern.specs.Kleene.{not_of, and_of, or_of, xor_of, mux_of};
 ghost use Rattle.rdc_tern.specs.Shifts.{select_of, shl_of, shr_of, sar_of};
 ghost use Rattle.rdc_tern.specs.Words as word;
+ghost use Rattle.net_view.specs.Values.{settled};
+ghost use Rattle.net_view.specs.declared.gate.Gate.TheVariants.{Const, Not, And, Or, Xor};
 ghost use Rattle.net_words.specs.declared.bits.Bitwise.{Bitwise};
-ghost use Rattle.net_words.specs.Builds.{IsWorth};
+ghost use Rattle.net_words.specs.Builds.{put, IsWorth};
 ghost use Rattle.net_words.specs.Bits as bits;
 ghost use Rattle.net_words.specs.Words as words;
 ghost use Rattle.net_words.specs.Words.{bit_of, each_of};
 ghost use Rattle.net_words.specs.Shifts as shifts;
 ghost use Rattle.net_words.specs.Sums as sums;
 ghost use Rattle.net_words.specs.Comparisons as comparisons;
+
+/// What one gate is worth.
+pub fn gates_are_worth()
+    ensures constant { (b : Bool) → IsWorth (put (Const b)) (λ v n. v n ≡ settled b) }
+    ensures inverse { (a : ℕ) → IsWorth (put (Not a)) (λ v n. v n ≡ not_of (v a)) }
+    ensures conjunction { (a b : ℕ) → IsWorth (put (And a b)) (λ v n. v n ≡ and_of (v a) (v b)) }
+    ensures disjunction { (a b : ℕ) → IsWorth (put (Or a b)) (λ v n. v n ≡ or_of (v a) (v b)) }
+    ensures difference { (a b : ℕ) → IsWorth (put (Xor a b)) (λ v n. v n ≡ xor_of (v a) (v b)) }
+{}
 
 /// What operations of two bits, and the selection, are worth.
 pub fn bits_are_worth()

@@ -1,6 +1,5 @@
 use Rattle.net_words.specs.Comparisons.{lt_signed}
 use Rattle.net_words.proofs.BuildLemmas.{all_left, next, fault, last}
-use Rattle.net_words.proofs.WordSteps.{still_there}
 use Rattle.net_words.proofs.comparisons.lt_signed.Goals as goal
 
 pub returns-in_err-left-clause-builds : goal.returns-in_err-left-clause-builds

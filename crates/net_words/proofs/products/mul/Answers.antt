@@ -1,5 +1,3 @@
-use Rattle.std.proofs.Common.{length, ◌<◌, sym, subst}
-use Rattle.std.proofs.lemmas.List.Elements.{All-replicate}
 use Rattle.net_words.specs.Sums.{mul}
 use Rattle.net_words.proofs.BuildLemmas.{all_left, next, fault, last}
 use Rattle.net_words.proofs.products.mul.Goals as goal

@@ -1,5 +1,3 @@
-use Rattle.std.proofs.Common.{sym, subst, ℕ}
-use Rattle.net_words.specs.Builds.{Build, Builds}
 use Rattle.net_words.proofs.WordSteps.{reduced_none, reduced_first}
 use Rattle.net_words.proofs.reductions.reduce.Goals as goal
 

@@ -1,4 +1,4 @@
-use Rattle.std.proofs.Common.{◌≡◌, ◌-◌, ℕ, length, arith, get_or, ◌∙◌, subst}
+use Rattle.std.proofs.Common.{◌-◌, ℕ, length, arith, ◌∙◌, subst}
 use Rattle.net_words.specs.Builds.{Builds}
 use Rattle.net_words.specs.Shifts.{sar, shift_from}
 use Rattle.net_words.specs.declared.shifts.Toward.TheVariants.{Bottom}

@@ -1,6 +1,5 @@
 use Rattle.std.proofs.Common.{◌≡◌, length, ap, ◌∙◌, sym, subst, List, ℕ, arith, le_trans}
 use Rattle.net_words.specs.Builds.{AreThere}
-use Rattle.net_words.specs.Shifts.{moved}
 use Rattle.net_words.proofs.BuildLemmas.{next, fault, done}
 use Rattle.net_words.proofs.WordSteps.{bit_there}
 use Rattle.net_words.proofs.ShiftSteps.{length-moved, moved_there, shift_here, shift_whole, twice}
