@@ -14,7 +14,8 @@ use Rattle.net_words.specs.Builds.{Gives}
 use Rattle.net_words.specs.Words.{each_of}
 use Rattle.net_words.specs.Shifts.{raised}
 use Rattle.net_words.specs.declared.bits.Bitwise.TheVariants as op
-use Rattle.net_words.specs.Sums.{carry_from, carry_if, full_adder, follows, sum, add, sub, neg, row, rows, mul}
+use Rattle.net_words.specs.Sums.{carry_from, carry_if, full_adder, follows, sum, add, sub, neg}
+use Rattle.net_words.specs.Products.{row, rows, mul}
 use Rattle.net_words.proofs.WorthLemmas.{gives_return, gives_then, gives_put, gives_more}
 use Rattle.net_words.proofs.WordWorths.{inverted_gives, each_gives}
 use Rattle.net_words.proofs.ShiftWorths.{raised_values}

@@ -10,7 +10,8 @@ use Rattle.net_words.specs.Builds.{Build, onward, ◌>>=◌, return, put, behind
 use Rattle.net_view.specs.View.{Numbered}
 use Rattle.net_words.specs.Bits.{bit, mux}
 use Rattle.net_words.specs.Words.{inverted, each, select, reduced_from, reduced}
-use Rattle.net_words.specs.Sums.{full_adder, follows, sum, row, rows}
+use Rattle.net_words.specs.Sums.{full_adder, follows, sum}
+use Rattle.net_words.specs.Products.{row, rows}
 use Rattle.net_words.specs.Comparisons.{lt_bit, lt_from, top_inverted}
 use Rattle.net_words.proofs.BuildLemmas.{IsLeft, all_left, bit_first, all_bits, bit_kept, grows_not}
 

@@ -1,14 +1,11 @@
--- Gates of sums, differences and products of words, least significant bit first.
+-- Gates of sums and differences of words, least significant bit first.
 --   carry_from, carry_if, full_adder     one bit, and the carry into the next, if there is one
 --   follows, sum                         the adder, bit by bit, from one carry on
 --   add, sub, neg                        a + b, a - b, -a
---   row, rows, mul                       a * b
-use Rattle.std.specs.Prelude.{ℕ, ◌+◌, Bool, true, false, List, [], ◌∷◌, length, replicate}
+use Rattle.std.specs.Prelude.{ℕ, Bool, true, false, List, [], ◌∷◌, length, replicate}
 use Rattle.net_view.specs.declared.gate.Gate.TheVariants.{Const, And, Or, Xor}
-use Rattle.net_words.specs.declared.bits.Bitwise.TheVariants as op
 use Rattle.net_words.specs.Builds.{Build, ◌>>=◌, return, put}
-use Rattle.net_words.specs.Words.{inverted, each}
-use Rattle.net_words.specs.Shifts.{raised}
+use Rattle.net_words.specs.Words.{inverted}
 
 -- (a and b) or (c and (a xor b)), where the difference is there
 unfoldable pub carry_from : ℕ → ℕ → ℕ → ℕ → Build ℕ
@@ -63,22 +60,3 @@ unfoldable pub neg : List ℕ → Build (List ℕ)
 neg a = do
   zero ← put (Const false)
   sub (replicate (length a) zero) a
-
--- what is added so far, and a moved up by i, each bit AND one bit
-unfoldable pub row : ℕ → ℕ → ℕ → List ℕ → List ℕ → Build (List ℕ)
-row low i bit so_far a = do
-  part ← each op.And (raised low i a) (replicate (length a) bit)
-  sum low so_far part
-
--- the same for each bit of b, from bit i on
-unfoldable pub rows : ℕ → List ℕ → List ℕ → ℕ → List ℕ → Build (List ℕ)
-rows low so_far a i [] = return so_far
-rows low so_far a i (bit ∷ b) = do
-  next ← row low i bit so_far a
-  rows low next a (i + 1) b
-
--- a * b
-unfoldable pub mul : List ℕ → List ℕ → Build (List ℕ)
-mul a b = do
-  low ← put (Const false)
-  rows low (replicate (length a) low) a 0 b

@@ -12,6 +12,7 @@ ghost use Rattle.net_words.specs.Words as words;
 ghost use Rattle.net_words.specs.Words.{bit_of, each_of};
 ghost use Rattle.net_words.specs.Shifts as shifts;
 ghost use Rattle.net_words.specs.Sums as sums;
+ghost use Rattle.net_words.specs.Products as products;
 ghost use Rattle.net_words.specs.Comparisons as comparisons;
 
 /// What one gate is worth.
@@ -47,7 +48,7 @@ pub fn reductions_are_worth()
 pub fn sums_are_worth()
     ensures sum { (a b : List ℕ) → IsWorth (sums.add a b) (λ v made. map v made ≡ word.add_of (map v a) (map v b)) }
     ensures difference { (a b : List ℕ) → IsWorth (sums.sub a b) (λ v made. map v made ≡ word.sub_of (map v a) (map v b)) }
-    ensures product { (a b : List ℕ) → IsWorth (sums.mul a b) (λ v made. map v made ≡ word.mul_of (map v a) (map v b)) }
+    ensures product { (a b : List ℕ) → IsWorth (products.mul a b) (λ v made. map v made ≡ word.mul_of (map v a) (map v b)) }
     ensures negation { (a : List ℕ) → IsWorth (sums.neg a) (λ v made. map v made ≡ word.neg_of (map v a)) }
 {}
 

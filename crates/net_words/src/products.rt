@@ -1,7 +1,7 @@
 //! Products of words, least significant bit first.
 ghost use Rattle.std.specs.Prelude.{◌≡◌, ◌<◌, ◌≤◌, length, IfOk};
 ghost use Rattle.net_words.specs.Builds.{Builds, AreThere};
-ghost use Rattle.net_words.specs.Sums as spec;
+ghost use Rattle.net_words.specs.Products as spec;
 
 use crate::bits::{Bitwise, put};
 use crate::shifts::raise;

@@ -1,4 +1,4 @@
-use Rattle.net_words.specs.Sums.{row}
+use Rattle.net_words.specs.Products.{row}
 use Rattle.net_words.proofs.BuildLemmas.{all_left, next, fault, last}
 use Rattle.net_words.proofs.products.add_row.Goals as goal
 

@@ -1,5 +1,5 @@
 use Rattle.std.proofs.Common.{le_trans, arith}
-use Rattle.net_words.specs.Sums.{rows}
+use Rattle.net_words.specs.Products.{rows}
 use Rattle.net_words.proofs.BuildLemmas.{all_left, next, fault, done}
 use Rattle.net_words.proofs.WordSteps.{bit_there, still_there, rows_here, rows_whole}
 use Rattle.net_words.proofs.products.add_rows.Goals as goal

@@ -1,6 +1,6 @@
 use Rattle.std.proofs.Common.{◌≡◌, ◌≤◌, length, drop}
 use Rattle.net_words.specs.Builds.{AreThere}
-use Rattle.net_words.specs.Sums.{rows}
+use Rattle.net_words.specs.Products.{rows}
 use Rattle.net_words.proofs.BuildLemmas.{IsLeft}
 use Rattle.net_words.proofs.products.add_rows.Given as goal
 

@@ -1,4 +1,4 @@
-use Rattle.net_words.specs.Sums.{mul}
+use Rattle.net_words.specs.Products.{mul}
 use Rattle.net_words.proofs.BuildLemmas.{all_left, next, fault, last}
 use Rattle.net_words.proofs.products.mul.Goals as goal
 
