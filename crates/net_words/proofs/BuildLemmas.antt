@@ -7,7 +7,11 @@ use Rattle.net_core.specs.declared.folds.Made.{Made}
 use Rattle.net_core.specs.declared.folds.Made.TheVariants.{There, New}
 use Rattle.net_core.specs.Folds.{folded, added, node_of}
 use Rattle.net_core.specs.Net.{Net, with_gates, most_nodes, IsRefusedAt}
-use Rattle.net_words.specs.Builds.{Built, Build, onward, ◌>>=◌, return, put, behind, Begins, Grows, Answers, Builds}
+use Rattle.net_words.specs.Builds.{Built, Build, onward, ◌>>=◌, return, put, Begins, Grows, Answers, Builds}
+
+-- a word, with these nodes in front
+unfoldable pub behind : List ℕ → Build (List ℕ) → Build (List ℕ)
+behind front b = b >>= (λ rest. return (front ++ rest))
 
 pub begins_itself : (gates : List Numbered) → Begins gates gates
 begins_itself gates = ([], append-nil gates)

@@ -6,14 +6,14 @@ use Rattle.std.proofs.lemmas.List.Elements.{All-push}
 use Rattle.net_view.specs.declared.gate.Gate.TheVariants.{Const, Not}
 use Rattle.net_core.specs.Net.{Net}
 use Rattle.net_words.specs.declared.bits.Bitwise.{Bitwise}
-use Rattle.net_words.specs.Builds.{Build, onward, ◌>>=◌, return, put, behind, AreThere}
+use Rattle.net_words.specs.Builds.{Build, onward, ◌>>=◌, return, put, AreThere}
 use Rattle.net_view.specs.View.{Numbered}
 use Rattle.net_words.specs.Bits.{bit, mux}
 use Rattle.net_words.specs.Words.{inverted, each, select, reduced_from, reduced}
 use Rattle.net_words.specs.Sums.{full_adder, follows, sum}
 use Rattle.net_words.specs.Products.{row, rows}
 use Rattle.net_words.specs.Comparisons.{lt_bit, lt_from, top_inverted}
-use Rattle.net_words.proofs.BuildLemmas.{IsLeft, all_left, bit_first, all_bits, bit_kept, grows_not}
+use Rattle.net_words.proofs.BuildLemmas.{behind, IsLeft, all_left, bit_first, all_bits, bit_kept, grows_not}
 
 -- a word is still there in a net that has grown, and so is its next bit
 pub still_there : (old new : Net) (word : List ℕ) → AreThere old word → length old.gates ≤ length new.gates → AreThere new word

@@ -1,7 +1,6 @@
 -- How gates are built one behind the other: what is made, and the gates that are then there.
 --   Built, Build              what is made of the gates that are there, or nothing where the net is full
 --   return, b >>= f, put      nothing is added, one step behind another, one gate
---   behind                    a word built behind nodes that are there
 --   Begins, Gives, IsWorth    what is built stays in front, and is worth so much in every net and state
 --   AreThere, Grows, Builds   what a call on a builder does that builds so
 use Rattle.std.specs.Prelude.{◌≡◌, ℕ, ◌<◌, List, All, ◌++◌, length, Option, Some, None, Result, Ok, Err, if◌then◌else◌, ◌==◌}
@@ -39,10 +38,6 @@ put g = λ gates. if length gates == most_nodes then None else Some (record {
   gates = added gates (folded gates g);
   made = node_of gates (folded gates g);
 })
-
--- a word, with these nodes in front
-unfoldable pub behind : List ℕ → Build (List ℕ) → Build (List ℕ)
-behind front b = b >>= (λ rest. return (front ++ rest))
 
 -- the first is the front of the second
 abbrev pub Begins : List Numbered → List Numbered → Type 0

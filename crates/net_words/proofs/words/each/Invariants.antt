@@ -1,7 +1,7 @@
 use Rattle.std.proofs.Common.{◌≡◌, ◌≤◌, length, drop}
-use Rattle.net_words.specs.Builds.{AreThere, behind}
+use Rattle.net_words.specs.Builds.{AreThere}
 use Rattle.net_words.specs.Words.{each}
-use Rattle.net_words.proofs.BuildLemmas.{IsLeft}
+use Rattle.net_words.proofs.BuildLemmas.{behind, IsLeft}
 use Rattle.net_words.proofs.words.each.Given as goal
 
 abbrev pub invariant-loop-i : goal.invariant-loop-i
