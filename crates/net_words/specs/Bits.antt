@@ -13,7 +13,7 @@ xnor a b = do
   differs ← put (Xor a b)
   put (Not differs)
 
--- the gate of an operation
+-- an operation of two bits
 unfoldable pub bit : Bitwise → ℕ → ℕ → Build ℕ
 bit op.And a b = put (And a b)
 bit op.Or a b = put (Or a b)

@@ -42,8 +42,8 @@ pub(crate) fn xnor(net: &mut NetBuilder, a: Node, b: Node) -> Result<Node, NetFa
     put(net, Gate::Not(differs))
 }
 
-/// The gate of an operation.
-pub(crate) fn bit(net: &mut NetBuilder, op: Bitwise, a: Node, b: Node) -> Result<Node, NetFault>
+/// An operation of two bits: a gate, and for `Xnor` an inverter behind it.
+pub fn bit(net: &mut NetBuilder, op: Bitwise, a: Node, b: Node) -> Result<Node, NetFault>
     requires a { a < length net.old.gates }
     requires b { b < length net.old.gates }
     ensures builds { Builds (λ n. n) (spec.bit op a b) net.old result net.new }

@@ -16,7 +16,7 @@ mod shifts;
 mod sums;
 mod words;
 
-pub use bits::{Bitwise, mux, put};
+pub use bits::{Bitwise, bit, mux, put};
 pub use comparisons::{eq, lt, lt_signed};
 pub use laws::{
     bits_are_worth, comparisons_are_worth, gates_are_worth, reductions_are_worth, shifts_are_worth,
