@@ -1,0 +1,3 @@
+pub mod WrittenForms
+mod WrittenChoices
+mod ScopeLemmas

@@ -1,0 +1,6 @@
+pub mod Faults
+pub mod Names
+pub mod Scopes
+pub mod Headers
+pub mod Unrolled
+pub mod Constants

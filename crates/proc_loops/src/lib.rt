@@ -1,0 +1,18 @@
+//! Process bodies without loops.
+//!
+//! `unrolled` gives a body in which each `for` is the turns that it makes, a number standing in the place of each running
+//! variable (`specs/Unrolled.antt`), or says why there is none. `written` puts constants into one expression.
+//! Meaning: stands on `vlog_tree` for statements, `vlog_const` for constants and `design_form` for what is written in
+//! their place. The checks of drivers and the reading of processes stand on it.
+#![tactic(auto)]
+
+mod fault;
+mod names;
+mod scope;
+mod turns;
+mod unrolling;
+mod writing;
+
+pub use fault::LoopFault;
+pub use unrolling::Unrolled;
+pub use writing::written;
