@@ -1,3 +1,5 @@
 pub mod WrittenForms
 mod WrittenChoices
 mod ScopeLemmas
+pub mod AssignForms
+pub mod HeaderForms

@@ -20,11 +20,14 @@ set_all-none values = refl
 
 pub ruleset sets = (set_all-end, set_all-more, set_all-none)
 
--- all variables, and then one more
-pub entered : (before after : Values) (known kept all : List Known) (k : Known) (i : ℕ) → set_all before (drop i known) ≡ set_all no_values known → kept ≡ take i known → length known ≤ i → after ≡ with_value before k.name k.value → all ≡ kept ++ k ∷ [] → after ≡ set_all no_values all
-entered before after known kept all k i gives is most then grown =
+-- all variables
+pub copied : (values : Values) (known kept : List Known) (i : ℕ) → set_all values (drop i known) ≡ set_all no_values known → kept ≡ take i known → length known ≤ i → values ≡ set_all no_values kept
+copied values known kept i gives is most =
     let whole = take_all i known most in
     let none = drop_all i known most in
-    let end = set_all-end no_values known k in
-    let nothing = set_all-none before in
+    let nothing = set_all-none values in
     cc
+
+-- and then one more
+pub entered : (before after : Values) (known all : List Known) (k : Known) → before ≡ set_all no_values known → after ≡ with_value before k.name k.value → all ≡ known ++ k ∷ [] → after ≡ set_all no_values all
+entered before after known all k is then grown = let end = set_all-end no_values known k in cc

@@ -14,13 +14,13 @@ use Rattle.vlog_tree.specs.declared.stmt.Stmt.{Stmt, fold-Stmt}
 use Rattle.vlog_tree.specs.declared.stmt.Stmt.TheOpen.{Stmt-F}
 
 -- the first place of two, and of some
-abbrev pub first_of : Option Place → Option Place → Option Place
-first_of None q = q
-first_of (Some place) q = Some place
+abbrev pub sooner : Option Place → Option Place → Option Place
+sooner None q = q
+sooner (Some place) q = Some place
 
 unfoldable pub first_among : List (Option Place) → Option Place
 first_among [] = None
-first_among (p ∷ ps) = first_of p (first_among ps)
+first_among (p ∷ ps) = sooner p (first_among ps)
 
 -- the place of a name that passes a test
 abbrev pub if_passing : (List ℕ → Bool) → Place → List ℕ → Option Place
@@ -30,14 +30,14 @@ if_passing test place name = if test name then Some place else None
 unfoldable pub first_by_parts : (List ℕ → Bool) → Expr-F (Option Place) → Option Place
 first_by_parts test (Expr-F.Number place n) = None
 first_by_parts test (Expr-F.Name place name) = if_passing test place name
-first_by_parts test (Expr-F.Index place name i) = first_of (if_passing test place name) i
-first_by_parts test (Expr-F.Select how place name i j) = first_of (if_passing test place name) (first_of i j)
+first_by_parts test (Expr-F.Index place name i) = sooner (if_passing test place name) i
+first_by_parts test (Expr-F.Select how place name i j) = sooner (if_passing test place name) (sooner i j)
 first_by_parts test (Expr-F.Brackets place a) = a
 first_by_parts test (Expr-F.Concat place members) = first_among members
-first_by_parts test (Expr-F.Repeat place n members) = first_of n (first_among members)
+first_by_parts test (Expr-F.Repeat place n members) = sooner n (first_among members)
 first_by_parts test (Expr-F.Unary place op a) = a
-first_by_parts test (Expr-F.Binary place op a b) = first_of a b
-first_by_parts test (Expr-F.Conditional place t a b) = first_of t (first_of a b)
+first_by_parts test (Expr-F.Binary place op a b) = sooner a b
+first_by_parts test (Expr-F.Conditional place t a b) = sooner t (sooner a b)
 
 unfoldable pub first_name : (List ℕ → Bool) → Expr → Option Place
 first_name test = fold-Expr (Option Place) (first_by_parts test)

@@ -1,7 +1,8 @@
 -- The running variables of the loops around a statement.
 --     set_all values known     names with values, after these were given theirs
 --     is_known values name     whether a name has a value
-use Rattle.std.specs.Prelude.{ℕ, Bool, true, false, List, [], ◌∷◌, Option, Some, None}
+--     stands known values name     the same, or the contrary
+use Rattle.std.specs.Prelude.{ℕ, Bool, true, false, not, if◌then◌else◌, List, [], ◌∷◌, Option, Some, None}
 use Rattle.vlog_const.specs.Names.{Values, with_value}
 use Rattle.vlog_const.specs.declared.answer.ConstValue.{ConstValue}
 use Rattle.proc_loops.specs.declared.scope.Known.{Known}
@@ -17,3 +18,6 @@ is_there (Some a) = true
 
 abbrev pub is_known : Values → List ℕ → Bool
 is_known values name = is_there (values name)
+
+abbrev pub stands : Bool → Values → List ℕ → Bool
+stands known values name = if known then is_known values name else not (is_known values name)

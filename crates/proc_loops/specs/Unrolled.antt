@@ -28,7 +28,7 @@ use Rattle.proc_loops.specs.declared.turns.Progress.{Progress}
 use Rattle.proc_loops.specs.declared.unrolling.Unrolled.{Unrolled}
 use Rattle.proc_loops.specs.Faults.{Or_fault, ◌>>=◌, constant}
 use Rattle.proc_loops.specs.Names.{first_name}
-use Rattle.proc_loops.specs.Scopes.{is_known}
+use Rattle.proc_loops.specs.Scopes.{stands}
 use Rattle.proc_loops.specs.Headers.{integer, running, unknown}
 
 -- so many turns are one too many
@@ -46,7 +46,7 @@ built e None = Ok e
 built e (Some place) = Err (NotBuilt place)
 
 unfoldable pub put_in : Values → Expr → Or_fault Expr
-put_in values e = built (written values e) (first_name (is_known values) (written values e))
+put_in values e = built (written values e) (first_name (stands true values) (written values e))
 
 -- each of some, behind those done
 unfoldable pub all_put_in : Values → List Expr → List Expr → Or_fault (List Expr)

@@ -7,8 +7,11 @@
 #![tactic(auto)]
 
 mod fault;
+mod firsts;
+mod headers;
 mod names;
 mod scope;
+mod scopes;
 mod turns;
 mod unrolling;
 mod writing;

@@ -1,11 +1,9 @@
-use Rattle.std.proofs.Common.{ap, sym, ◌∙◌, arith}
-use Rattle.vlog_const.specs.Names.{no_values, values_of}
-use Rattle.proc_loops.specs.Scopes.{set_all}
+use Rattle.vlog_const.specs.Names.{values_of}
 use Rattle.proc_loops.proofs.ScopeLemmas.{entered}
 use Rattle.proc_loops.proofs.scope.Scope.entered.Goals as goal
 
 pub invariant_of-result : goal.invariant_of-result
 invariant_of-result c = record {
-  same = entered (values_of c.loop-k.env) (values_of c.set-2.new.env) c.deref-k-items.result.now c.loop-k.known.items c.keep-2.new.known.items (record { name = c.args.name.now; value = c.args.value }) c.loop-k.k-index
-      (c.loop-k.invariant.0 ∙ ap (set_all no_values) (sym c.deref-k-items.ensures.value)) c.loop-k.invariant.1 (omega arith) c.in_ok-set.ensures c.in_ok-keep.ensures;
+  same = entered (values_of c.in_ok-env.field-0.env) (values_of c.set.new.env) c.in_ok-env.field-0.known.items c.keep.new.known.items (record { name = c.args.name.now; value = c.args.value })
+      c.in_ok-env.field-0.same c.in_ok-set.ensures c.in_ok-keep.ensures;
 }
