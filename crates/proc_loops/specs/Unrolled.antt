@@ -24,7 +24,7 @@ use Rattle.vlog_const.specs.Worths.{is_true}
 use Rattle.vlog_const.specs.Constants.{value_of, value_within}
 use Rattle.design_form.specs.ConstantLaws.{as_number, written}
 use Rattle.proc_loops.specs.declared.fault.LoopFault.TheVariants.{Const, NotBuilt}
-use Rattle.proc_loops.specs.declared.turns.Progress.{Progress}
+use Rattle.proc_loops.specs.declared.progress.Progress.{Progress}
 use Rattle.proc_loops.specs.declared.unrolling.Unrolled.{Unrolled}
 use Rattle.proc_loops.specs.Faults.{Or_fault, ◌>>=◌, constant}
 use Rattle.proc_loops.specs.Names.{first_name}
@@ -89,6 +89,10 @@ ended variable v = stmt.Assign variable.place (expr.Name variable.place variable
 abbrev pub stepped : Loop → ConstValue → ConstValue → ConstValue
 stepped h v w = if bytes_eq h.variable.name h.stepped.name then integer w.bits else v
 
+-- whether another turn is one too many
+abbrev pub is_full : Progress → Bool
+is_full p = nat_le most_turns (p.turns + 1)
+
 -- one more turn, or none any more
 abbrev pub one_more : Progress → Progress
 one_more p = record p { turns = p.turns + 1 }
@@ -101,7 +105,7 @@ unfoldable pub turns : ℕ → Loop → (ConstValue → Values) → Run Stmt →
 turns zero h inside body v done p = Ok (done, cut p)
 turns (suc n) h inside body v done p = do
   t ← constant (value_of (inside v) h.test)
-  if not (is_true t) then Ok (done ++ ended h.variable v ∷ [], p) else (if nat_le most_turns (p.turns + 1) then Ok (done, cut p) else (do
+  if not (is_true t) then Ok (done ++ ended h.variable v ∷ [], p) else (if is_full p then Ok (done, cut p) else (do
     r ← body (inside v) (one_more p)
     if r.1.is_cut then Ok (done ++ r.0 ∷ [], r.1) else (do
       w ← constant (value_within (inside v) 32 h.step)

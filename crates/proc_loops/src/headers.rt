@@ -43,11 +43,12 @@ pub fn unknown(alloc: Global, s: &Stmt, scope: &Scope) -> Result<Option<Place>, 
     match s {
         Stmt::Empty(_) | Stmt::Assign(..) => Ok(None),
         Stmt::Block(_, _, ss) => unknown_among(alloc, ss.as_slice(), scope),
-        Stmt::If(_, _, first, None) => unknown(alloc, first.get(), scope),
-        Stmt::If(_, _, first, Some(other)) => {
+        Stmt::If(_, _, first, other) => {
             let first = unknown(alloc, first.get(), scope)?;
-            let other = unknown(alloc, other.get(), scope)?;
-            Ok(sooner(first, other))
+            match other {
+                None => Ok(first),
+                Some(other) => Ok(sooner(first, unknown(alloc, other.get(), scope)?)),
+            }
         }
         Stmt::Case(_, _, _, arms) => unknown_in_arms(alloc, arms.as_slice(), scope),
         Stmt::For(_, header, body) => unknown_in_loop(alloc, body.get(), header, scope),

@@ -8,11 +8,13 @@
 
 mod fault;
 mod firsts;
+mod header_values;
 mod headers;
 mod names;
+mod progress;
+mod putting;
 mod scope;
 mod scopes;
-mod turns;
 mod unrolling;
 mod writing;
 

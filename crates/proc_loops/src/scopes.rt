@@ -22,13 +22,6 @@ impl Scope {
         }
     }
 
-    /// The table.
-    pub fn env(&self) -> &Env
-        ensures { values_of result.now ≡ values_of self.now.env }
-    {
-        &self.env
-    }
-
     /// Whether a name has a value, or has none.
     pub fn stands(&self, name: &[u8], known: bool) -> bool
         ensures { result ≡ stands known (values_of self.now.env) name.now }
