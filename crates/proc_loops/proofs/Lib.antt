@@ -3,3 +3,5 @@ mod WrittenChoices
 mod ScopeLemmas
 pub mod AssignForms
 pub mod HeaderForms
+pub mod UnrollForms
+pub mod TurnForms

@@ -1,7 +1,8 @@
 -- A body without loops.
 --     Run A                  from what names stand for and the turns so far: a value and the turns then, or a fault
 --     put_in values e        an expression with the running variables written as numbers
---     turns n h inside ..    the turns of a loop, n of them at most, behind those done
+--     turn h inside ..       one turn of a loop
+--     turns n h inside ..    its turns, fewer than n of them, behind the statements done
 --     unroll s               a statement without loops
 --     unrolled s             a body without loops, where each header is constant
 use Rattle.std.specs.Prelude.{ℕ, zero, suc, ◌+◌, ◌-◌, ◌^◌, min, Bool, true, false, nat_le, not, if◌then◌else◌, List, [], ◌∷◌, ◌++◌, Option, Some, None, Ok, Err}
@@ -12,6 +13,7 @@ use Rattle.vlog_tree.specs.declared.expr.Expr.TheVariants as expr
 use Rattle.vlog_tree.specs.declared.ident.Ident.{Ident}
 use Rattle.vlog_tree.specs.declared.stmt.Arm.{Arm}
 use Rattle.vlog_tree.specs.declared.stmt.Loop.{Loop}
+use Rattle.vlog_tree.specs.declared.stmt.Assigns.{Assigns}
 use Rattle.vlog_tree.specs.declared.stmt.Assigns.TheVariants.{Blocking}
 use Rattle.vlog_tree.specs.declared.stmt.Stmt.{Stmt, para-Stmt}
 use Rattle.vlog_tree.specs.declared.stmt.Stmt.TheVariants as stmt
@@ -25,7 +27,10 @@ use Rattle.vlog_const.specs.Constants.{value_of, value_within}
 use Rattle.design_form.specs.ConstantLaws.{as_number, written}
 use Rattle.proc_loops.specs.declared.fault.LoopFault.TheVariants.{Const, NotBuilt}
 use Rattle.proc_loops.specs.declared.progress.Progress.{Progress}
-use Rattle.proc_loops.specs.declared.unrolling.Unrolled.{Unrolled}
+use Rattle.proc_loops.specs.declared.pieces.Sides.{Sides}
+use Rattle.proc_loops.specs.declared.turn.Turn.{Turn}
+use Rattle.proc_loops.specs.declared.turn.Turn.TheVariants.{Ended, Full, Cut, Made}
+use Rattle.proc_loops.specs.declared.turn.Unrolled.{Unrolled}
 use Rattle.proc_loops.specs.Faults.{Or_fault, ◌>>=◌, constant}
 use Rattle.proc_loops.specs.Names.{first_name}
 use Rattle.proc_loops.specs.Scopes.{stands}
@@ -72,12 +77,15 @@ each_arm f done (a ∷ arms) values p = if p.is_cut then Ok (done, p) else (do
   r ← f a.body values p
   each_arm f (done ++ (record { place = a.place; labels = labels; body = r.0 }) ∷ []) arms values r.1)
 
--- an else side, up to a cut
-unfoldable pub side : {S : Type 0} → (S → Run Stmt) → Option S → Run (Option Stmt)
-side f None values p = Ok (None, p)
-side f (Some s) values p = if p.is_cut then Ok (None, p) else (do
-  r ← f s values p
-  Ok (Some r.0, r.1))
+-- both sides of an `if`, the other one up to a cut
+unfoldable pub other_side : {S : Type 0} → (S → Run Stmt) → Option S → Values → Stmt × Progress → Or_fault Sides
+other_side f None values r = Ok (record { first = r.0; other = None; then = r.1 })
+other_side f (Some s) values r = if r.1.is_cut then Ok (record { first = r.0; other = None; then = r.1 }) else (do
+  q ← f s values r.1
+  Ok (record { first = r.0; other = Some q.0; then = q.1 }))
+
+abbrev pub sides : {S : Type 0} → (S → Run Stmt) → Option S → Values → Or_fault (Stmt × Progress) → Or_fault Sides
+sides f b values first = first >>= other_side f b values
 
 -- ---- loops
 
@@ -100,16 +108,29 @@ one_more p = record p { turns = p.turns + 1 }
 abbrev pub cut : Progress → Progress
 cut p = record p { is_cut = true }
 
--- the turns of a loop from the value v of its variable on, n of them at most, behind the statements done
+-- a turn: none where the test is false, or where it would be one too many
+unfoldable pub turn : Loop → Values → Run Stmt → ConstValue → Progress → Or_fault Turn
+turn h inside body v p = do
+  t ← constant (value_of inside h.test)
+  if not (is_true t) then Ok Ended else (if is_full p then Ok Full else (do
+    r ← body inside (one_more p)
+    if r.1.is_cut then Ok (Cut r.0 r.1) else (do
+      w ← constant (value_within inside 32 h.step)
+      Ok (Made r.0 (stepped h v w) r.1))))
+
+-- what follows a turn that began at the value v, behind the statements done
+unfoldable pub after_turn : (ConstValue → List Stmt → Progress → Or_fault (List Stmt × Progress)) → Loop → ConstValue → List Stmt → Progress → Turn → Or_fault (List Stmt × Progress)
+after_turn more h v done p Ended = Ok (done ++ ended h.variable v ∷ [], p)
+after_turn more h v done p Full = Ok (done, cut p)
+after_turn more h v done p (Cut s q) = Ok (done ++ s ∷ [], q)
+after_turn more h v done p (Made s w q) = more w (done ++ s ∷ []) q
+
+-- the turns of a loop from the value v of its variable on, fewer than n of them, behind the statements done
 unfoldable pub turns : ℕ → Loop → (ConstValue → Values) → Run Stmt → ConstValue → List Stmt → Progress → Or_fault (List Stmt × Progress)
 turns zero h inside body v done p = Ok (done, cut p)
 turns (suc n) h inside body v done p = do
-  t ← constant (value_of (inside v) h.test)
-  if not (is_true t) then Ok (done ++ ended h.variable v ∷ [], p) else (if is_full p then Ok (done, cut p) else (do
-    r ← body (inside v) (one_more p)
-    if r.1.is_cut then Ok (done ++ r.0 ∷ [], r.1) else (do
-      w ← constant (value_within (inside v) 32 h.step)
-      turns n h inside body (stepped h v w) (done ++ r.0 ∷ []) r.1)))
+  t ← turn h (inside v) body v p
+  after_turn (turns n h inside body) h v done p t
 
 -- how wide a constant expression is, where it has a value
 abbrev pub width_if : worths.Or_fault ConstValue → ℕ
@@ -133,21 +154,24 @@ unroll_loop place h body run values p = do
 
 -- ---- statements
 
+-- an assignment
+unfoldable pub assignment : Place → Expr → Assigns → Expr → Run Stmt
+assignment place target by value values p = do
+  t ← put_in values target
+  v ← put_in values value
+  Ok (stmt.Assign place t by v, p)
+
 -- by the parts of a statement, each beside what it becomes
 unfoldable pub unroll_by_parts : Stmt-F (Stmt × Run Stmt) → Run Stmt
 unroll_by_parts (Stmt-F.Empty place) values p = Ok (stmt.Empty place, p)
 unroll_by_parts (Stmt-F.Block place label ss) values p = do
   r ← each (λ s. s.1) [] ss values p
   Ok (stmt.Block place label r.0, r.1)
-unroll_by_parts (Stmt-F.Assign place target by value) values p = do
-  t ← put_in values target
-  v ← put_in values value
-  Ok (stmt.Assign place t by v, p)
+unroll_by_parts (Stmt-F.Assign place target by value) values p = assignment place target by value values p
 unroll_by_parts (Stmt-F.If place test a b) values p = do
   t ← put_in values test
-  r ← a.1 values p
-  q ← side (λ s. s.1) b values r.1
-  Ok (stmt.If place t r.0 q.0, q.1)
+  r ← sides (λ s. s.1) b values (a.1 values p)
+  Ok (stmt.If place t r.first r.other, r.then)
 unroll_by_parts (Stmt-F.Case place how selector arms) values p = do
   s ← put_in values selector
   r ← each_arm (λ s. s.1) [] arms values p

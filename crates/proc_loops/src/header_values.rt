@@ -3,6 +3,7 @@ ghost use Rattle.std.specs.Prelude.{◌≡◌, ◌≤◌, ◌+◌, IfOk};
 ghost use Rattle.vlog_const.specs.Names.{values_of};
 ghost use Rattle.vlog_const.specs.Constants.{value_of, value_within};
 ghost use Rattle.proc_loops.specs.Faults.{Answers, constant};
+ghost use Rattle.proc_loops.specs.Headers.{integer, running};
 ghost use Rattle.proc_loops.specs.Unrolled.{header_width, stepped, width_if};
 
 use crate::fault::LoopFault;
@@ -10,7 +11,7 @@ use crate::headers::integer;
 use crate::scope::Scope;
 use std::alloc::{AllocError, Global};
 use vlog_const::{ConstFault, ConstValue, value, value_within};
-use vlog_tree::{Expr, Loop};
+use vlog_tree::{Expr, Loop, Stmt};
 
 /// What a test gives.
 #[tactic(auto, unfolding(crate::specs::Faults::constant))]
@@ -63,7 +64,7 @@ fn step_width(alloc: Global, e: &Expr, scope: &Scope) -> Result<u64, AllocError>
 }
 
 /// The widths of a header.
-pub fn header_width(
+fn header_width(
     alloc: Global,
     start: ConstValue,
     header: &Loop,
@@ -85,4 +86,19 @@ pub fn stepped(header: &Loop, v: ConstValue, given: ConstValue) -> ConstValue
         return integer(given.bits);
     }
     v
+}
+
+/// The widths of a header, as its loop begins.
+pub fn first_width(
+    alloc: Global,
+    body: &Stmt,
+    header: &Loop,
+    scope: &Scope,
+    start: ConstValue,
+) -> Result<u64, AllocError>
+    requires { start.width ≤ 128 }
+    ensures { IfOk result (λ w. w ≡ header_width (running (values_of scope.now.env) header.now body.now (integer start.bits)) start header.now) }
+{
+    let inside = scope.running(alloc, header, body, integer(start.bits))?;
+    header_width(alloc, start, header, &inside)
 }

@@ -11,13 +11,16 @@ mod firsts;
 mod header_values;
 mod headers;
 mod names;
+mod pieces;
 mod progress;
 mod putting;
 mod scope;
 mod scopes;
+mod turn;
 mod unrolling;
 mod writing;
 
 pub use fault::LoopFault;
-pub use unrolling::Unrolled;
+pub use turn::Unrolled;
+pub use unrolling::unrolled;
 pub use writing::written;

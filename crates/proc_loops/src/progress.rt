@@ -1,6 +1,6 @@
 //! How far an unrolling has come.
 ghost use Rattle.std.specs.Prelude.{◌≡◌, ◌<◌, false};
-ghost use Rattle.proc_loops.specs.Unrolled.{begun, counted, cut, is_full, one_more};
+ghost use Rattle.proc_loops.specs.Unrolled.{begun, counted, cut, is_full, most_turns, one_more};
 
 /// So many turns are one too many.
 const MOST: u32 = 65536;
@@ -25,6 +25,14 @@ pub fn begun() -> Progress
         headers: 0,
         is_cut: false,
     }
+}
+
+/// So many turns are one too many.
+#[tactic(auto, unfolding(crate::specs::Unrolled::most_turns))]
+pub fn most_turns() -> u32
+    ensures { result ≡ most_turns }
+{
+    MOST
 }
 
 /// Whether another turn is one too many.
