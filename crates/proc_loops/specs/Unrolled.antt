@@ -62,20 +62,19 @@ all_put_in values done (e ∷ es) = do
 
 -- ---- lists
 
--- statements behind those done, up to a cut
-unfoldable pub each : {S : Type 0} → (S → Run Stmt) → List Stmt → List S → Run (List Stmt)
+-- each of some in its turn, behind those done, up to a cut
+unfoldable pub each : {S T : Type 0} → (S → Run T) → List T → List S → Run (List T)
 each f done [] values p = Ok (done, p)
 each f done (s ∷ ss) values p = if p.is_cut then Ok (done, p) else (do
   r ← f s values p
   each f (done ++ r.0 ∷ []) ss values r.1)
 
--- case items likewise
-unfoldable pub each_arm : {S : Type 0} → (S → Run Stmt) → List (Arm Stmt) → List (Arm S) → Run (List (Arm Stmt))
-each_arm f done [] values p = Ok (done, p)
-each_arm f done (a ∷ arms) values p = if p.is_cut then Ok (done, p) else (do
+-- a case item
+unfoldable pub arm_in : {S : Type 0} → (S → Run Stmt) → Arm S → Run (Arm Stmt)
+arm_in f a values p = do
   labels ← all_put_in values [] a.labels
   r ← f a.body values p
-  each_arm f (done ++ (record { place = a.place; labels = labels; body = r.0 }) ∷ []) arms values r.1)
+  Ok (record { place = a.place; labels = labels; body = r.0 }, r.1)
 
 -- both sides of an `if`, the other one up to a cut
 unfoldable pub other_side : {S : Type 0} → (S → Run Stmt) → Option S → Values → Stmt × Progress → Or_fault Sides
@@ -174,7 +173,7 @@ unroll_by_parts (Stmt-F.If place test a b) values p = do
   Ok (stmt.If place t r.first r.other, r.then)
 unroll_by_parts (Stmt-F.Case place how selector arms) values p = do
   s ← put_in values selector
-  r ← each_arm (λ s. s.1) [] arms values p
+  r ← each (arm_in (λ s. s.1)) [] arms values p
   Ok (stmt.Case place how s r.0, r.1)
 unroll_by_parts (Stmt-F.For place h body) values p = unroll_loop place h body.0 body.1 values p
 

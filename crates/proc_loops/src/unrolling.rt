@@ -5,7 +5,7 @@ ghost use Rattle.proc_loops.specs.declared.progress.Progress as progress;
 ghost use Rattle.vlog_const.specs.Names.{values_of};
 ghost use Rattle.proc_loops.specs.Faults.{Answers, Or_fault};
 ghost use Rattle.proc_loops.specs.Headers.{running};
-ghost use Rattle.proc_loops.specs.Unrolled.{each, each_arm, most_turns, sides, turn, turns, unroll, unroll_loop, unrolled};
+ghost use Rattle.proc_loops.specs.Unrolled.{arm_in, each, most_turns, sides, turn, turns, unroll, unroll_loop, unrolled};
 
 use crate::fault::LoopFault;
 use crate::header_values::{first_width, given, stepped, tested};
@@ -62,6 +62,7 @@ fn statement(
 
 /// An else side behind the other one, up to a cut.
 #[cycle(unrolling)]
+#[tactic(auto, unfolding(crate::specs::Unrolled::other_side, crate::specs::Faults::and_then))]
 fn side(
     alloc: Global,
     other: &Option<Boxed<Stmt>>,
@@ -123,14 +124,14 @@ fn each(
 
 /// Case items, up to a cut.
 #[cycle(unrolling)]
-#[tactic(auto, unfolding(crate::specs::Unrolled::each_arm, crate::specs::Faults::and_then))]
+#[tactic(auto, unfolding(crate::specs::Unrolled::each, crate::specs::Faults::and_then))]
 fn each_arm(
     alloc: Global,
     arms: &[Arm<Boxed<Stmt>>],
     scope: &Scope,
     p: Progress,
 ) -> Result<(Items<Arm<Boxed<Stmt>>>, Progress), LoopFault>
-    ensures { Answers result (each_arm unroll [] arms.now (values_of scope.now.env) p) }
+    ensures { Answers result (each (arm_in unroll) [] arms.now (values_of scope.now.env) p) }
 {
     let mut done = Items::new(alloc);
     let mut p = p;
@@ -191,11 +192,15 @@ fn turns(
     let mut left = most_turns();
     while 0 < left {
         left -= 1;
-        match turn(alloc, body, header, scope, v, p) {
-            Ok(Turn::Ended) => return ended(alloc, done, header, v, p),
-            Ok(Turn::Full) => return Ok((done, cut(p))),
-            Ok(Turn::Cut(s, q)) => return pushed(done, s, q),
-            Ok(Turn::Made(s, w, q)) => {
+        let next = match turn(alloc, body, header, scope, v, p) {
+            Ok(next) => next,
+            Err(fault) => return Err(fault),
+        };
+        match next {
+            Turn::Ended => return ended(alloc, done, header, v, p),
+            Turn::Full => return Ok((done, cut(p))),
+            Turn::Cut(s, q) => return pushed(done, s, q),
+            Turn::Made(s, w, q) => {
                 match done.push(s) {
                     Ok(()) => {}
                     Err(_) => return Err(LoopFault::Memory),
@@ -203,7 +208,6 @@ fn turns(
                 v = w;
                 p = q;
             }
-            Err(fault) => return Err(fault),
         }
     }
     Ok((done, cut(p)))

@@ -2,14 +2,14 @@
 use Rattle.std.proofs.Common.{◌≡◌, [], drop}
 use Rattle.vlog_const.specs.Names.{values_of}
 use Rattle.proc_loops.specs.Headers.{running}
-use Rattle.proc_loops.specs.Unrolled.{each, each_arm, most_turns, turns, unroll}
+use Rattle.proc_loops.specs.Unrolled.{arm_in, each, most_turns, turns, unroll}
 use Rattle.proc_loops.proofs.unrolling.+unrolling.Given as goal
 
 abbrev pub invariant-each-loop-s : goal.invariant-each-loop-s
 invariant-each-loop-s l = each unroll l.done (drop l.s-index l.ss) (values_of l.scope.env) l.p ≡ each unroll [] l.ss (values_of l.scope.env) l.fn.p
 
 abbrev pub invariant-each_arm-loop-arm : goal.invariant-each_arm-loop-arm
-invariant-each_arm-loop-arm l = each_arm unroll l.done (drop l.arm-index l.arms) (values_of l.scope.env) l.p ≡ each_arm unroll [] l.arms (values_of l.scope.env) l.fn.p
+invariant-each_arm-loop-arm l = each (arm_in unroll) l.done (drop l.arm-index l.arms) (values_of l.scope.env) l.p ≡ each (arm_in unroll) [] l.arms (values_of l.scope.env) l.fn.p
 
 abbrev pub invariant-turns-loop-left : goal.invariant-turns-loop-left
 invariant-turns-loop-left l =
