@@ -10,7 +10,7 @@ use Rattle.vlog_tree.specs.declared.stmt.Stmt.TheOpen.{Stmt-F}
 use Rattle.vlog_tree.specs.declared.stmt.Stmt.TheVariants.{Case, rolls-Case}
 use Rattle.proc_loops.specs.Names.{assigns, assigns_by_parts}
 
-any_map : {A B : Type 0} (f : A → B) (p : B → Bool) (xs : List A) → list_any p (map f xs) ≡ list_any (λ x. p (f x)) xs
+pub any_map : {A B : Type 0} (f : A → B) (p : B → Bool) (xs : List A) → list_any p (map f xs) ≡ list_any (λ x. p (f x)) xs
 any_map f p [] = refl
 any_map f p (x ∷ xs) = ap (λ b. p (f x) || b) (any_map f p xs)
 

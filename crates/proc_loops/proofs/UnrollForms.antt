@@ -20,13 +20,13 @@ use Rattle.proc_loops.specs.Unrolled.{Run, put_in, all_put_in, each, arm_in, sid
 
 -- ---- lists of statements that are given by others
 
-each-map : {S T X : Type 0} (g : S → T) (f : T → Run X) (done : List X) (ss : List S) (values : Values) (p : Progress) → each f done (map g ss) values p ≡ each (λ s. f (g s)) done ss values p
+pub each-map : {S T X : Type 0} (g : S → T) (f : T → Run X) (done : List X) (ss : List S) (values : Values) (p : Progress) → each f done (map g ss) values p ≡ each (λ s. f (g s)) done ss values p
 unfolding each
 each-map g f done [] values p = refl
 each-map {S} {T} {X} g f done (s ∷ ss) values p =
     ap (λ (k : X × Progress → Or_fault (List X × Progress)). if p.is_cut then Ok (done, p) else and_then (f (g s) values p) k) (fun_ext (λ r. each-map g f (done ++ r.0 ∷ []) ss values r.1))
 
-abbrev with_body : {S T : Type 0} → (S → T) → Arm S → Arm T
+abbrev pub with_body : {S T : Type 0} → (S → T) → Arm S → Arm T
 with_body g a = record { place = a.place; labels = a.labels; body = g a.body }
 
 -- ---- forms
