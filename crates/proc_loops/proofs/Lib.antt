@@ -5,3 +5,4 @@ pub mod AssignForms
 pub mod HeaderForms
 pub mod UnrollForms
 pub mod TurnForms
+pub mod LoopLaws

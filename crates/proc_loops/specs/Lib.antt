@@ -3,4 +3,5 @@ pub mod Names
 pub mod Scopes
 pub mod Headers
 pub mod Unrolled
+pub mod Laws
 pub mod Constants

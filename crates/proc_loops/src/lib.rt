@@ -10,6 +10,7 @@ mod fault;
 mod firsts;
 mod header_values;
 mod headers;
+mod laws;
 mod names;
 mod pieces;
 mod progress;
@@ -21,6 +22,7 @@ mod unrolling;
 mod writing;
 
 pub use fault::LoopFault;
+pub use laws::{no_loop_is_left, turns_are_counted};
 pub use turn::Unrolled;
 pub use unrolling::unrolled;
 pub use writing::written;

@@ -17,7 +17,7 @@ each_arm-loop-arm-preserved t c =
     let form = arm-form c.arm-item.result c.as_slice.result.now c.get.result.now (values_of c.args.scope.now.env) c.loop-arm.p c.as_slice.ensures c.get.ensures in
     ap (λ d. each (arm_in unroll) d (drop (c.loop-arm.arm-index + 1) c.args.arms.now) (values_of c.args.scope.now.env) c.in-Ok.step.1) c.in-Ok-push.ensures.ok
     ∙ sym (each-goes (arm_in unroll) c.loop-arm.done c.args.arms.now c.loop-arm.arm-index c.arm-item.result (values_of c.args.scope.now.env) c.loop-arm.p c.in-Ok.step (omega arith) c.arm-item.is c.if-p.false
-      (form ∙ c.in-Ok.ensures _ _ c.all_put_in-labels.ensures (c.boxed-body.ensures _ c.statement.ensures)))
+    (form ∙ c.in-Ok.ensures _ _ c.all_put_in-labels.ensures (c.boxed-body.ensures _ c.statement.ensures)))
     ∙ c.loop-arm.invariant
 
 pub statement-returns-in-If : goal.statement-returns-in-If
