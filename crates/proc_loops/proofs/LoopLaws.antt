@@ -1,5 +1,5 @@
 -- Serves specs/Laws.antt: no form of statement leaves a loop, or makes a turn too many.
-use Rattle.std.proofs.Common.{◌≡◌, ◌⊎◌, inl, inr, ℕ, zero, suc, ◌+◌, ◌<◌, Bool, true, false, ◌||◌, not, if◌then◌else◌, List, [], ◌∷◌, ◌++◌, map, All, Option, Some, None, Result, Ok, Err, refl, sym, ap, subst, ◌∙◌, arith}
+use Rattle.std.proofs.Common.{◌≡◌, ◌⊎◌, inl, inr, ℕ, zero, suc, ◌<◌, Bool, true, false, ◌||◌, not, if◌then◌else◌, List, [], ◌∷◌, ◌++◌, map, All, Option, Some, None, Ok, Err, refl, sym, ap, subst, ◌∙◌, arith}
 use Rattle.std.specs.List.{list_any}
 use Rattle.std.proofs.lemmas.List.Elements.{All-nil, All-push}
 use Rattle.std.proofs.lemmas.List.Folds.{list_any_none}
@@ -13,7 +13,7 @@ use Rattle.vlog_tree.specs.declared.stmt.Loop.{Loop}
 use Rattle.vlog_tree.specs.declared.stmt.Matching.{Matching}
 use Rattle.vlog_tree.specs.declared.stmt.Stmt.{Stmt, fold-roll-Stmt, ind-Stmt, map-Stmt, roll-Stmt}
 use Rattle.vlog_tree.specs.declared.stmt.Stmt.TheOpen.{Stmt-F}
-use Rattle.vlog_tree.specs.declared.stmt.Stmt.TheVariants.{Empty, Block, Assign, If, Case, For, rolls-Empty, rolls-Block, rolls-Assign, rolls-If, rolls-Case, rolls-For}
+use Rattle.vlog_tree.specs.declared.stmt.Stmt.TheVariants.{Empty, Block, Assign, If, Case, rolls-Empty, rolls-Block, rolls-Assign, rolls-If, rolls-Case, rolls-For}
 use Rattle.vlog_const.specs.declared.answer.ConstValue.{ConstValue}
 use Rattle.vlog_const.specs.Names.{Values, no_values}
 use Rattle.vlog_const.specs.Worths.{is_true}
@@ -24,7 +24,6 @@ use Rattle.proc_loops.specs.declared.turn.Turn.{Turn}
 use Rattle.proc_loops.specs.declared.turn.Turn.TheVariants.{Ended, Full, Cut, Made}
 use Rattle.proc_loops.specs.declared.turn.Unrolled.{Unrolled}
 use Rattle.proc_loops.specs.Faults.{Or_fault, and_then, constant}
-use Rattle.proc_loops.specs.Names.{is_if}
 use Rattle.proc_loops.specs.Headers.{unknown}
 use Rattle.proc_loops.specs.Unrolled.{Run, most_turns, is_full, one_more, put_in, all_put_in, each, arm_in, sides, other_side, assignment, ended, stepped, cut, turn, after_turn, turns, unroll_loop, unroll, begun, unrolled, unrolled_if}
 use Rattle.proc_loops.specs.Laws.{has_loop, has_loop_by_parts}
@@ -226,12 +225,12 @@ unfolding other_side
 sides_keep None values q r free short is = one_side q r free short is
 sides_keep (Some k) values q r free short is =
     elim (chosen q.1.is_cut _ _ (Ok r) is) [
-    inl e ↦ one_side q r free short e.1
-    | inr e ↦
-      let made = then_of (unroll (known k) values q.1) _ r e.1 in
-      let kept = k.1 values q.1 made.0 short made.1.0 in
-      let same : (let x : Sides = record { first = q.0; other = Some made.0.0; then = made.0.1 } in x) ≡ r = cc in
-      subst FreeSides same (record { free = λ place test. loop-If-Some place test q.0 made.0.0 ∙ ap (λ b. b || has_loop made.0.0) free ∙ kept.0; short = kept.1 })
+      | inl e ↦ one_side q r free short e.1
+      | inr e ↦
+          let made = then_of (unroll (known k) values q.1) _ r e.1 in
+          let kept = k.1 values q.1 made.0 short made.1.0 in
+          let same : (let x : Sides = record { first = q.0; other = Some made.0.0; then = made.0.1 } in x) ≡ r = cc in
+          subst FreeSides same (record { free = λ place test. loop-If-Some place test q.0 made.0.0 ∙ ap (λ b. b || has_loop made.0.0) free ∙ kept.0; short = kept.1 })
     ]
 
 if_keeps : (place : Place) (test : Expr) (a : Known) (b : Option Known) (o : Option Stmt) → ((values : Values) (q : Stmt × Progress) → other_side unroll o values q ≡ other_side (λ k. unroll (known k)) b values q)

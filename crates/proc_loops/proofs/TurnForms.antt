@@ -6,7 +6,6 @@ use Rattle.vlog_const.specs.declared.answer.ConstValue.{ConstValue}
 use Rattle.vlog_const.specs.Names.{Values}
 use Rattle.proc_loops.specs.declared.fault.LoopFault.{LoopFault}
 use Rattle.proc_loops.specs.declared.progress.Progress.{Progress}
-use Rattle.proc_loops.specs.declared.turn.Turn.{Turn}
 use Rattle.proc_loops.specs.declared.turn.Turn.TheVariants.{Ended, Full, Cut, Made}
 use Rattle.proc_loops.specs.Faults.{and_then}
 use Rattle.proc_loops.specs.Unrolled.{Run, ended, cut, turn, after_turn, turns}

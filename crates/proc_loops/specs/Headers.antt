@@ -2,10 +2,9 @@
 --     running values h body v        what names stand for in a turn, where the variable of the loop is v
 --     unknown s values               the first name of a header that has no value there, if there is one: those of the start,
 --                                    of the test, of the step, and then of the loops in the body
-use Rattle.std.specs.Prelude.{ℕ, ◌%◌, ◌^◌, Bool, true, false, if◌then◌else◌, List, map, Option, None, Some}
+use Rattle.std.specs.Prelude.{ℕ, ◌%◌, ◌^◌, true, false, if◌then◌else◌, map, Option, None, Some}
 use Rattle.rdc_outside.specs.declared.source.Place.{Place}
 use Rattle.vlog_tree.specs.declared.expr.Expr.{Expr}
-use Rattle.vlog_tree.specs.declared.stmt.Arm.{Arm}
 use Rattle.vlog_tree.specs.declared.stmt.Loop.{Loop}
 use Rattle.vlog_tree.specs.declared.stmt.Stmt.{Stmt, para-Stmt}
 use Rattle.vlog_tree.specs.declared.stmt.Stmt.TheOpen.{Stmt-F}

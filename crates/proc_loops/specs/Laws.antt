@@ -2,9 +2,8 @@
 --     has_loop s         whether a statement holds a loop
 --     HoldsNoLoop        what is unrolled holds none
 --     CountsTurns        fewer than 65,536 turns were made
-use Rattle.std.specs.Prelude.{◌≡◌, ◌<◌, Bool, true, false, ◌||◌, Option, Some, None, Ok}
+use Rattle.std.specs.Prelude.{◌≡◌, ◌<◌, Bool, true, false, ◌||◌, Ok}
 use Rattle.std.specs.List.{list_any}
-use Rattle.vlog_tree.specs.declared.stmt.Arm.{Arm}
 use Rattle.vlog_tree.specs.declared.stmt.Stmt.{Stmt, fold-Stmt}
 use Rattle.vlog_tree.specs.declared.stmt.Stmt.TheOpen.{Stmt-F}
 use Rattle.proc_loops.specs.declared.turn.Unrolled.{Unrolled}

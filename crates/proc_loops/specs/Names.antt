@@ -8,7 +8,6 @@ use Rattle.std.specs.Str.{bytes_eq}
 use Rattle.rdc_outside.specs.declared.source.Place.{Place}
 use Rattle.vlog_tree.specs.declared.expr.Expr.{Expr, fold-Expr}
 use Rattle.vlog_tree.specs.declared.expr.Expr.TheOpen.{Expr-F}
-use Rattle.vlog_tree.specs.declared.stmt.Arm.{Arm}
 use Rattle.vlog_tree.specs.declared.stmt.Loop.{Loop}
 use Rattle.vlog_tree.specs.declared.stmt.Stmt.{Stmt, fold-Stmt}
 use Rattle.vlog_tree.specs.declared.stmt.Stmt.TheOpen.{Stmt-F}

@@ -4,7 +4,6 @@
 --     stands known values name     the same, or the contrary
 use Rattle.std.specs.Prelude.{ℕ, Bool, true, false, not, if◌then◌else◌, List, [], ◌∷◌, Option, Some, None}
 use Rattle.vlog_const.specs.Names.{Values, with_value}
-use Rattle.vlog_const.specs.declared.answer.ConstValue.{ConstValue}
 use Rattle.proc_loops.specs.declared.scope.Known.{Known}
 
 unfoldable pub set_all : Values → List Known → Values

@@ -1,4 +1,4 @@
-use Rattle.std.proofs.Common.{◌+◌, ◌-◌, ◌<◌, [], drop, Ok, refl, sym, ap, ◌∙◌, arith}
+use Rattle.std.proofs.Common.{◌+◌, ◌-◌, drop, Ok, refl, sym, ap, ◌∙◌, arith}
 use Rattle.vlog_const.specs.Names.{values_of}
 use Rattle.proc_loops.specs.Headers.{running}
 use Rattle.proc_loops.specs.Unrolled.{arm_in, each, turns, unroll}
