@@ -6,3 +6,5 @@ pub mod HeaderForms
 pub mod UnrollForms
 pub mod TurnForms
 pub mod LoopLaws
+pub mod PlainExpressions
+pub mod PlainBodies

@@ -36,7 +36,7 @@ loop-Empty : (place : Place) → has_loop (Empty place) ≡ false
 unfolding has_loop has_loop_by_parts
 loop-Empty place = ap has_loop (sym (rolls-Empty place)) ∙ fold-roll-Stmt Bool has_loop_by_parts (Stmt-F.Empty place)
 
-loop-Block : (place : Place) (label : Option Ident) (ss : List Stmt) → has_loop (Block place label ss) ≡ list_any has_loop ss
+pub loop-Block : (place : Place) (label : Option Ident) (ss : List Stmt) → has_loop (Block place label ss) ≡ list_any has_loop ss
 unfolding has_loop has_loop_by_parts
 loop-Block place label ss = ap has_loop (sym (rolls-Block place label ss)) ∙ fold-roll-Stmt Bool has_loop_by_parts (Stmt-F.Block place label ss) ∙ any_map has_loop (λ b. b) ss
 
@@ -44,18 +44,22 @@ loop-Assign : (place : Place) (target : Expr) (by : Assigns) (value : Expr) → 
 unfolding has_loop has_loop_by_parts
 loop-Assign place target by value = ap has_loop (sym (rolls-Assign place target by value)) ∙ fold-roll-Stmt Bool has_loop_by_parts (Stmt-F.Assign place target by value)
 
-loop-If-None : (place : Place) (test : Expr) (a : Stmt) → has_loop (If place test a None) ≡ (has_loop a || false)
+pub loop-If-None : (place : Place) (test : Expr) (a : Stmt) → has_loop (If place test a None) ≡ (has_loop a || false)
 unfolding has_loop has_loop_by_parts
 loop-If-None place test a = ap has_loop (sym (rolls-If place test a None)) ∙ fold-roll-Stmt Bool has_loop_by_parts (Stmt-F.If place test a None)
 
-loop-If-Some : (place : Place) (test : Expr) (a b : Stmt) → has_loop (If place test a (Some b)) ≡ (has_loop a || has_loop b)
+pub loop-If-Some : (place : Place) (test : Expr) (a b : Stmt) → has_loop (If place test a (Some b)) ≡ (has_loop a || has_loop b)
 unfolding has_loop has_loop_by_parts
 loop-If-Some place test a b = ap has_loop (sym (rolls-If place test a (Some b))) ∙ fold-roll-Stmt Bool has_loop_by_parts (Stmt-F.If place test a (Some b))
 
-loop-Case : (place : Place) (how : Matching) (selector : Expr) (arms : List (Arm Stmt)) → has_loop (Case place how selector arms) ≡ list_any (λ a. has_loop a.body) arms
+pub loop-Case : (place : Place) (how : Matching) (selector : Expr) (arms : List (Arm Stmt)) → has_loop (Case place how selector arms) ≡ list_any (λ a. has_loop a.body) arms
 unfolding has_loop has_loop_by_parts
 loop-Case place how selector arms =
     ap has_loop (sym (rolls-Case place how selector arms)) ∙ fold-roll-Stmt Bool has_loop_by_parts (Stmt-F.Case place how selector arms) ∙ any_map _ (λ a. a.body) arms
+
+pub loop-For : (place : Place) (h : Loop) (body : Stmt) → has_loop (For place h body) ≡ true
+unfolding has_loop has_loop_by_parts
+loop-For place h body = ap has_loop (sym (rolls-For place h body)) ∙ fold-roll-Stmt Bool has_loop_by_parts (Stmt-F.For place h body)
 
 -- ---- steps
 

@@ -2,6 +2,7 @@
 --     has_loop s         whether a statement holds a loop
 --     HoldsNoLoop        what is unrolled holds none
 --     CountsTurns        fewer than 65,536 turns were made
+--     KeepsOthers        a body without loops stays as it is
 use Rattle.std.specs.Prelude.{◌≡◌, ◌<◌, Bool, true, false, ◌||◌, Ok}
 use Rattle.std.specs.List.{list_any}
 use Rattle.vlog_tree.specs.declared.stmt.Stmt.{Stmt, fold-Stmt}
@@ -30,3 +31,7 @@ HoldsNoLoop = (s : Stmt) (u : Unrolled) → unrolled s ≡ Ok u → has_loop u.b
 -- fewer than 65,536 turns were made
 abbrev pub CountsTurns : Type 0
 CountsTurns = (s : Stmt) (u : Unrolled) → unrolled s ≡ Ok u → u.turns < 65536
+
+-- a body without loops stays as it is
+abbrev pub KeepsOthers : Type 0
+KeepsOthers = (s : Stmt) → has_loop s ≡ false → unrolled s ≡ Ok (record { body = s; turns = 0; headers = 0; is_cut = false })

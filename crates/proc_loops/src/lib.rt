@@ -6,6 +6,7 @@
 //! their place. The checks of drivers and the reading of processes stand on it.
 #![tactic(auto)]
 
+mod copying;
 mod fault;
 mod firsts;
 mod header_values;
@@ -21,8 +22,9 @@ mod turn;
 mod unrolling;
 mod writing;
 
+pub use copying::copied;
 pub use fault::LoopFault;
-pub use laws::{no_loop_is_left, turns_are_counted};
+pub use laws::{no_loop_is_left, other_bodies_stay, turns_are_counted};
 pub use turn::Unrolled;
 pub use unrolling::unrolled;
 pub use writing::written;
