@@ -13,7 +13,7 @@ use Rattle.vlog_tree.specs.declared.stmt.Loop.{Loop}
 use Rattle.vlog_tree.specs.declared.stmt.Matching.{Matching}
 use Rattle.vlog_tree.specs.declared.stmt.Stmt.{Stmt, fold-roll-Stmt, ind-Stmt, map-Stmt, roll-Stmt}
 use Rattle.vlog_tree.specs.declared.stmt.Stmt.TheOpen.{Stmt-F}
-use Rattle.vlog_tree.specs.declared.stmt.Stmt.TheVariants.{Empty, Block, Assign, If, Case, rolls-Empty, rolls-Block, rolls-Assign, rolls-If, rolls-Case, rolls-For}
+use Rattle.vlog_tree.specs.declared.stmt.Stmt.TheVariants.{Empty, Block, Assign, If, Case, For, rolls-Empty, rolls-Block, rolls-Assign, rolls-If, rolls-Case, rolls-For}
 use Rattle.vlog_const.specs.declared.answer.ConstValue.{ConstValue}
 use Rattle.vlog_const.specs.Names.{Values, no_values}
 use Rattle.vlog_const.specs.Worths.{is_true}
@@ -25,7 +25,8 @@ use Rattle.proc_loops.specs.declared.turn.Turn.TheVariants.{Ended, Full, Cut, Ma
 use Rattle.proc_loops.specs.declared.turn.Unrolled.{Unrolled}
 use Rattle.proc_loops.specs.Faults.{Or_fault, and_then, constant}
 use Rattle.proc_loops.specs.Headers.{unknown}
-use Rattle.proc_loops.specs.Unrolled.{Run, most_turns, is_full, one_more, put_in, all_put_in, each, arm_in, sides, other_side, assignment, ended, stepped, cut, turn, after_turn, turns, unroll_loop, unroll, begun, unrolled, unrolled_if}
+use Rattle.proc_loops.specs.Turns.{Run, most_turns, is_full, one_more, ended, stepped, cut, turn, after_turn, turns, unroll_loop, begun}
+use Rattle.proc_loops.specs.Unrolled.{put_in, all_put_in, each, arm_in, sides, other_side, assignment, unroll, unrolled, unrolled_if}
 use Rattle.proc_loops.specs.Laws.{has_loop, has_loop_by_parts}
 use Rattle.proc_loops.proofs.AssignForms.{any_map}
 use Rattle.proc_loops.proofs.UnrollForms.{each-map, with_body, unroll-Empty, unroll-Block, unroll-Assign, unroll-If, unroll-Case, unroll-For}

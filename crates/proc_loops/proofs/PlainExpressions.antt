@@ -1,5 +1,5 @@
 -- Serves specs/Laws.antt: where no name has a value an expression stays as it is.
-use Rattle.std.proofs.Common.{◌≡◌, ℕ, Bool, true, List, [], ◌∷◌, ◌++◌, map, Option, Some, None, Ok, Err, refl, sym, ap, subst, ◌∙◌, append_assoc}
+use Rattle.std.proofs.Common.{◌≡◌, ℕ, true, List, [], ◌∷◌, ◌++◌, map, Option, None, Ok, Err, refl, sym, ap, subst, ◌∙◌, append_assoc}
 use Rattle.std.proofs.lemmas.List.{append-nil}
 use Rattle.rdc_outside.specs.declared.source.Place.{Place}
 use Rattle.vlog_tree.specs.declared.expr.Expr.{Expr, ind-Expr, map-Expr, roll-Expr, fold-roll-Expr}
@@ -15,7 +15,7 @@ use Rattle.vlog_const.specs.Names.{Values, no_values}
 use Rattle.vlog_const.specs.Worths as worths
 use Rattle.vlog_const.specs.Worths.{and_then as worth_then, alone, named, looked_up}
 use Rattle.vlog_const.specs.Selects.{selected}
-use Rattle.vlog_const.specs.Constants.{worth, value_of}
+use Rattle.vlog_const.specs.Constants.{value_of}
 use Rattle.design_form.specs.ConstantLaws.{number_or, written}
 use Rattle.design_form.proofs.WorthForms.{worth-Name, worth-Index, worth-Select}
 use Rattle.proc_loops.specs.Faults.{and_then}

@@ -8,7 +8,7 @@ use Rattle.proc_loops.specs.declared.fault.LoopFault.{LoopFault}
 use Rattle.proc_loops.specs.declared.progress.Progress.{Progress}
 use Rattle.proc_loops.specs.declared.turn.Turn.TheVariants.{Ended, Full, Cut, Made}
 use Rattle.proc_loops.specs.Faults.{and_then}
-use Rattle.proc_loops.specs.Unrolled.{Run, ended, cut, turn, after_turn, turns}
+use Rattle.proc_loops.specs.Turns.{Run, ended, cut, turn, after_turn, turns}
 
 pub turns-next : (k n : ℕ) (h : Loop) (inside : ConstValue → Values) (body : Run Stmt) (v : ConstValue) (done : List Stmt) (p : Progress)
     → 0 < k → n ≡ k - 1 → turns k h inside body v done p ≡ and_then (turn h (inside v) body v p) (after_turn (turns n h inside body) h v done p)

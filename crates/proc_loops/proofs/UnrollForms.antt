@@ -16,7 +16,8 @@ use Rattle.vlog_const.specs.Names.{Values}
 use Rattle.proc_loops.specs.declared.fault.LoopFault.{LoopFault}
 use Rattle.proc_loops.specs.declared.progress.Progress.{Progress}
 use Rattle.proc_loops.specs.Faults.{Or_fault, and_then, Answers}
-use Rattle.proc_loops.specs.Unrolled.{Run, put_in, all_put_in, each, arm_in, sides, other_side, assignment, unroll_loop, unroll, unroll_by_parts}
+use Rattle.proc_loops.specs.Turns.{Run, unroll_loop}
+use Rattle.proc_loops.specs.Unrolled.{put_in, all_put_in, each, arm_in, sides, other_side, assignment, unroll, unroll_by_parts}
 
 -- ---- lists of statements that are given by others
 

@@ -4,7 +4,7 @@ ghost use Rattle.vlog_const.specs.Names.{values_of};
 ghost use Rattle.vlog_const.specs.Constants.{value_of, value_within};
 ghost use Rattle.proc_loops.specs.Faults.{Answers, constant};
 ghost use Rattle.proc_loops.specs.Headers.{integer, running};
-ghost use Rattle.proc_loops.specs.Unrolled.{header_width, stepped, width_if};
+ghost use Rattle.proc_loops.specs.Turns.{header_width, stepped, width_if};
 
 use crate::fault::LoopFault;
 use crate::headers::integer;

@@ -10,7 +10,8 @@ ghost use Rattle.proc_loops.specs.declared.pieces.Sides as two;
 ghost use Rattle.proc_loops.specs.declared.turn.Turn.TheVariants.{Made};
 ghost use Rattle.vlog_const.specs.Names.{values_of};
 ghost use Rattle.proc_loops.specs.Faults.{Answers, Or_fault, and_then};
-ghost use Rattle.proc_loops.specs.Unrolled.{assignment, ended, stepped};
+ghost use Rattle.proc_loops.specs.Turns.{ended, stepped};
+ghost use Rattle.proc_loops.specs.Unrolled.{assignment};
 
 use crate::fault::LoopFault;
 use crate::header_values::stepped;
@@ -26,7 +27,7 @@ use vlog_const::ConstValue;
 use vlog_tree::{Arm, Assigns, Expr, Ident, Loop, Matching, Name, Stmt};
 
 /// Both sides of an `if`, and how far the unrolling is then.
-#[derive(Debug, Drop)]
+#[derive(Drop)]
 pub struct Sides {
     pub first: Boxed<Stmt>,
     pub other: Option<Boxed<Stmt>>,

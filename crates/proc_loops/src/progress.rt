@@ -1,12 +1,12 @@
 //! How far an unrolling has come.
 ghost use Rattle.std.specs.Prelude.{◌≡◌, ◌<◌, false};
-ghost use Rattle.proc_loops.specs.Unrolled.{begun, counted, cut, is_full, most_turns, one_more};
+ghost use Rattle.proc_loops.specs.Turns.{begun, counted, cut, is_full, most_turns, one_more};
 
 /// So many turns are one too many.
 const MOST: u32 = 65536;
 
 /// How far an unrolling has come.
-#[derive(Clone, Copy, Debug, PartialEq, Eq)]
+#[derive(Clone, Copy)]
 pub struct Progress {
     /// The turns of all loops.
     pub turns: u32,
@@ -28,7 +28,7 @@ pub fn begun() -> Progress
 }
 
 /// So many turns are one too many.
-#[tactic(auto, unfolding(crate::specs::Unrolled::most_turns))]
+#[tactic(auto, unfolding(crate::specs::Turns::most_turns))]
 pub fn most_turns() -> u32
     ensures { result ≡ most_turns }
 {
@@ -36,7 +36,7 @@ pub fn most_turns() -> u32
 }
 
 /// Whether another turn is one too many.
-#[tactic(auto, unfolding(crate::specs::Unrolled::most_turns))]
+#[tactic(auto, unfolding(crate::specs::Turns::most_turns))]
 pub fn is_full(p: Progress) -> bool
     ensures value { result ≡ is_full p }
     ensures room { result ≡ false → p.turns < 65535 }

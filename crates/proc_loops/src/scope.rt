@@ -7,7 +7,7 @@ use vlog_const::{ConstValue, Env};
 use vlog_tree::Name;
 
 /// A variable with its value.
-#[derive(Debug, Drop)]
+#[derive(Drop)]
 pub struct Known {
     pub name: Name,
     pub value: ConstValue,

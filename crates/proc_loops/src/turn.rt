@@ -5,7 +5,7 @@ use vlog_const::ConstValue;
 use vlog_tree::Stmt;
 
 /// What one turn of a loop gives.
-#[derive(Debug, Drop)]
+#[derive(Drop)]
 pub enum Turn {
     /// The test is false.
     Ended,

@@ -5,7 +5,8 @@ ghost use Rattle.proc_loops.specs.declared.progress.Progress as progress;
 ghost use Rattle.vlog_const.specs.Names.{values_of};
 ghost use Rattle.proc_loops.specs.Faults.{Answers, Or_fault};
 ghost use Rattle.proc_loops.specs.Headers.{running};
-ghost use Rattle.proc_loops.specs.Unrolled.{arm_in, each, most_turns, sides, turn, turns, unroll, unroll_loop, unrolled};
+ghost use Rattle.proc_loops.specs.Turns.{most_turns, turn, turns, unroll_loop};
+ghost use Rattle.proc_loops.specs.Unrolled.{arm_in, each, sides, unroll, unrolled};
 
 use crate::fault::LoopFault;
 use crate::header_values::{first_width, given, stepped, tested};
@@ -156,7 +157,7 @@ fn each_arm(
 
 /// A loop as a block of its turns.
 #[cycle(unrolling)]
-#[tactic(auto, unfolding(crate::specs::Unrolled::unroll_loop, crate::specs::Faults::and_then))]
+#[tactic(auto, unfolding(crate::specs::Turns::unroll_loop, crate::specs::Faults::and_then))]
 fn unroll_loop(
     alloc: Global,
     body: &Stmt,
@@ -231,7 +232,7 @@ fn turn(
 
 /// The same, where the variable has its value already.
 #[cycle(unrolling)]
-#[tactic(auto, unfolding(crate::specs::Unrolled::turn, crate::specs::Faults::and_then))]
+#[tactic(auto, unfolding(crate::specs::Turns::turn, crate::specs::Faults::and_then))]
 fn turn_inside(
     alloc: Global,
     body: &Stmt,

@@ -1,7 +1,8 @@
 use Rattle.std.proofs.Common.{◌+◌, ◌-◌, drop, Ok, refl, sym, ap, ◌∙◌, arith}
 use Rattle.vlog_const.specs.Names.{values_of}
 use Rattle.proc_loops.specs.Headers.{running}
-use Rattle.proc_loops.specs.Unrolled.{arm_in, each, turns, unroll}
+use Rattle.proc_loops.specs.Turns.{turns}
+use Rattle.proc_loops.specs.Unrolled.{arm_in, each, unroll}
 use Rattle.proc_loops.proofs.UnrollForms.{each-fails, each-goes, same_answer, if-form, case-form, unless_memory, arm-form}
 use Rattle.proc_loops.proofs.TurnForms.{turns-fault, turns-ended, turns-full, turns-cut, turns-made, turns-none}
 use Rattle.proc_loops.proofs.unrolling.+unrolling.Goals as goal

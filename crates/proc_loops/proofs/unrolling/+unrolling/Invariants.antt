@@ -2,7 +2,8 @@
 use Rattle.std.proofs.Common.{◌≡◌, [], drop}
 use Rattle.vlog_const.specs.Names.{values_of}
 use Rattle.proc_loops.specs.Headers.{running}
-use Rattle.proc_loops.specs.Unrolled.{arm_in, each, most_turns, turns, unroll}
+use Rattle.proc_loops.specs.Turns.{most_turns, turns}
+use Rattle.proc_loops.specs.Unrolled.{arm_in, each, unroll}
 use Rattle.proc_loops.proofs.unrolling.+unrolling.Given as goal
 
 abbrev pub invariant-each-loop-s : goal.invariant-each-loop-s
