@@ -1,7 +1,8 @@
 //! Process bodies without loops.
 //!
 //! `unrolled` gives a body in which each `for` is the turns that it makes, a number standing in the place of each running
-//! variable (`specs/Unrolled.antt`), or says why there is none. `written` puts constants into one expression.
+//! variable (`specs/Unrolled.antt`), or says why there is none. `written` puts constants into one expression, `copied`
+//! copies one. What each such body keeps to is in `specs/Laws.antt`.
 //! Meaning: stands on `vlog_tree` for statements, `vlog_const` for constants and `design_form` for what is written in
 //! their place. The checks of drivers and the reading of processes stand on it.
 #![tactic(auto)]
