@@ -5,7 +5,7 @@
 --     directed d e m        the direction of a port that the head names
 --     further form e m      a net or a register for it
 --     entered before m      what is known after one more declaration, or why there may be none
-use Rattle.std.specs.Prelude.{Bool, true, false, ◌||◌, ◌&&◌, not, if◌then◌else◌, Option, Some, None, Result, Ok, Err}
+use Rattle.std.specs.Prelude.{Bool, true, false, ◌||◌, ◌&&◌, if◌then◌else◌, Option, Some, None, Result, Ok, Err}
 use Rattle.vlog_tree.specs.declared.port.Direction.{Direction}
 use Rattle.vlog_tree.specs.declared.port.Direction.TheVariants as way
 use Rattle.elab_decls.specs.declared.mention.Mention.{Mention}

@@ -6,7 +6,6 @@
 use Rattle.std.specs.Prelude.{ℕ, Bool, false, List, [], ◌∷◌, ◌++◌, Option, Some, None}
 use Rattle.std.specs.List.{flat_map}
 use Rattle.vlog_tree.specs.declared.ident.Ident.{Ident}
-use Rattle.vlog_tree.specs.declared.port.Direction.{Direction}
 use Rattle.vlog_tree.specs.declared.port.Port.{Port}
 use Rattle.vlog_tree.specs.declared.port.Port.TheVariants as port
 use Rattle.vlog_tree.specs.declared.item.Item.{Item, fold-Item}

@@ -1,5 +1,5 @@
 -- The parameters of each form of item.
-use Rattle.std.proofs.Common.{◌≡◌, ℕ, Bool, true, false, List, [], ◌∷◌, map, Option, Some, Ok, refl, sym, ap, ◌∙◌}
+use Rattle.std.proofs.Common.{◌≡◌, List, Option, Ok, sym, ap, ◌∙◌}
 use Rattle.rdc_outside.specs.declared.source.Place.{Place}
 use Rattle.vlog_tree.specs.declared.ident.Ident.{Ident}
 use Rattle.vlog_tree.specs.declared.expr.Expr.{Expr}
@@ -21,7 +21,7 @@ use Rattle.vlog_tree.specs.declared.item.Item.{Item, Item-F, fold-roll-Item}
 use Rattle.vlog_tree.specs.declared.item.Item.TheVariants as i
 use Rattle.elab_names.specs.Answers.{Or_fault}
 use Rattle.elab_names.specs.Meanings.{Frames}
-use Rattle.elab_scopes.specs.Threads.{threaded, chained}
+use Rattle.elab_scopes.specs.Threads.{threaded}
 use Rattle.elab_scopes.specs.Parameters.{Given, none_given, entered, item_by_parts, parameters_of_item}
 use Rattle.elab_scopes.proofs.ThreadLemmas.{ready}
 

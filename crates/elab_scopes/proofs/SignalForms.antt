@@ -1,5 +1,5 @@
 -- The signals of each form of item.
-use Rattle.std.proofs.Common.{◌≡◌, ℕ, Bool, true, false, List, [], ◌∷◌, map, Option, Some, Ok, refl, sym, ap, ◌∙◌}
+use Rattle.std.proofs.Common.{◌≡◌, ℕ, true, false, List, Option, Some, Ok, sym, ap, ◌∙◌}
 use Rattle.rdc_outside.specs.declared.source.Place.{Place}
 use Rattle.vlog_tree.specs.declared.ident.Ident.{Ident}
 use Rattle.vlog_tree.specs.declared.expr.Expr.{Expr}
@@ -20,7 +20,7 @@ use Rattle.vlog_tree.specs.declared.item.Block.{Block}
 use Rattle.vlog_tree.specs.declared.item.Item.{Item, Item-F, fold-roll-Item}
 use Rattle.vlog_tree.specs.declared.item.Item.TheVariants as i
 use Rattle.elab_names.specs.Answers.{Or_fault}
-use Rattle.elab_scopes.specs.Threads.{threaded, chained}
+use Rattle.elab_scopes.specs.Threads.{threaded}
 use Rattle.elab_scopes.specs.Signals.{Drawn, Entries, shaped, integer, item_by_parts, signals_of_item}
 use Rattle.elab_scopes.proofs.ThreadLemmas.{ready}
 

@@ -5,7 +5,7 @@
 --     source, given_value             the expression that a parameter takes, and its value
 --     entered frames s given b        the names after one more parameter
 --     parameters_of_item, parameters_of_head, parameters     after those of an item, of a module's head, of a scope
-use Rattle.std.specs.Prelude.{ℕ, Bool, ◌||◌, nat_lt, if◌then◌else◌, List, map, Option, Some, None, Ok, Err}
+use Rattle.std.specs.Prelude.{ℕ, Bool, ◌||◌, nat_lt, if◌then◌else◌, List, Option, Some, None, Ok, Err}
 use Rattle.rdc_outside.specs.declared.source.Place.{Place}
 use Rattle.vlog_tree.specs.declared.expr.Expr.{Expr}
 use Rattle.vlog_tree.specs.declared.port.Range.{Range}

@@ -18,7 +18,6 @@ use Rattle.vlog_tree.specs.declared.item.Net.{Net}
 use Rattle.vlog_tree.specs.declared.item.Item.{Item, fold-Item}
 use Rattle.vlog_tree.specs.declared.item.Item.TheOpen.{Item-F}
 use Rattle.design_form.specs.declared.signal.Bounds.{Bounds}
-use Rattle.design_form.specs.declared.signal.Signal.{Signal}
 use Rattle.design_form.specs.declared.signal.SignalKind.{SignalKind}
 use Rattle.design_form.specs.declared.signal.SignalKind.TheVariants as kind
 use Rattle.elab_decls.specs.declared.entry.Entry.{Entry}

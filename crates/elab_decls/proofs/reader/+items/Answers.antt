@@ -1,6 +1,6 @@
-use Rattle.std.proofs.Common.{◌≡◌, arith}
+use Rattle.std.proofs.Common.{arith}
 use Rattle.elab_decls.specs.Mentions.{said_of_item}
-use Rattle.elab_decls.specs.Tables.{entries, table_of}
+use Rattle.elab_decls.specs.Tables.{table_of}
 use Rattle.elab_decls.proofs.ListLemmas.{one_more, one_refused, all_entered}
 use Rattle.elab_decls.proofs.reader.+items.Goals as goal
 

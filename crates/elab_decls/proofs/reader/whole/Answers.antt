@@ -1,5 +1,5 @@
-use Rattle.std.proofs.Common.{◌≡◌, arith}
-use Rattle.elab_decls.specs.Tables.{table_of, whole}
+use Rattle.std.proofs.Common.{arith}
+use Rattle.elab_decls.specs.Tables.{table_of}
 use Rattle.elab_decls.proofs.ListLemmas.{port_more, port_refused, ports_ended}
 use Rattle.elab_decls.proofs.reader.whole.Goals as goal
 

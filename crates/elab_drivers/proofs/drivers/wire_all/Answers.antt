@@ -1,9 +1,6 @@
-use Rattle.std.proofs.Common.{◌≡◌, arith, Some, None, true, false}
-use Rattle.elab_names.specs.Meanings.{frames_of}
-use Rattle.elab_scopes.specs.Threads.{threaded}
-use Rattle.elab_drivers.specs.Targets.{may_drive}
+use Rattle.std.proofs.Common.{arith}
 use Rattle.elab_drivers.specs.Drafts.{draft_of}
-use Rattle.elab_drivers.specs.Drivers.{wired, assigns, gated}
+use Rattle.elab_drivers.specs.Drivers.{wired}
 use Rattle.elab_scopes.proofs.ThreadLemmas.{one_more, one_stops, all_done}
 use Rattle.elab_drivers.proofs.drivers.wire_all.Goals as goal
 

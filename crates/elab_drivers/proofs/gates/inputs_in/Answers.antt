@@ -2,7 +2,6 @@ use Rattle.std.proofs.Common.{arith}
 use Rattle.elab_names.specs.Expressions.{put_in}
 use Rattle.elab_names.specs.Meanings.{frames_of}
 use Rattle.elab_names.proofs.Lists.{more-next, more-fault, more-end}
-use Rattle.elab_drivers.specs.Targets.{assigned}
 use Rattle.elab_drivers.proofs.gates.inputs_in.Goals as goal
 
 pub returns-in-Err : goal.returns-in-Err

@@ -4,7 +4,6 @@ use Rattle.elab_names.specs.Answers.{gathered}
 use Rattle.elab_names.specs.Expressions.{put_in}
 use Rattle.elab_names.specs.Meanings.{frames_of}
 use Rattle.elab_names.proofs.Lists.{more}
-use Rattle.elab_drivers.specs.Targets.{assigned}
 use Rattle.elab_drivers.proofs.gates.inputs_in.Given as goal
 
 abbrev pub invariant-loop-terminal : goal.invariant-loop-terminal

@@ -1,5 +1,4 @@
 use Rattle.std.proofs.Common.{arith}
-use Rattle.elab_names.specs.Expressions.{put_in}
 use Rattle.elab_names.specs.Meanings.{frames_of}
 use Rattle.elab_names.proofs.Lists.{more-next, more-fault, more-end}
 use Rattle.elab_drivers.specs.Targets.{assigned}

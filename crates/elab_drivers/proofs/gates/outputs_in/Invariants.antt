@@ -1,7 +1,6 @@
 -- What is left of the terminals decides what all give.
 use Rattle.std.proofs.Common.{◌≡◌, map, drop}
 use Rattle.elab_names.specs.Answers.{gathered}
-use Rattle.elab_names.specs.Expressions.{put_in}
 use Rattle.elab_names.specs.Meanings.{frames_of}
 use Rattle.elab_names.proofs.Lists.{more}
 use Rattle.elab_drivers.specs.Targets.{assigned}

@@ -1,4 +1,4 @@
-use Rattle.std.proofs.Common.{◌≡◌, arith}
+use Rattle.std.proofs.Common.{arith}
 use Rattle.vlog_tree.specs.declared.expr.Expr.{Expr}
 use Rattle.elab_names.specs.Meanings.{frames_of}
 use Rattle.elab_drivers.specs.Targets.{may_drive}

@@ -1,4 +1,4 @@
-use Rattle.std.proofs.Common.{◌≡◌, ℕ, List, ap, ◌∙◌, arith}
+use Rattle.std.proofs.Common.{ℕ, List, ap, ◌∙◌, arith}
 use Rattle.elab_names.specs.Meanings.{frames_of, declaring}
 use Rattle.elab_names.specs.declared.meaning.Meaning.TheVariants.{Other}
 use Rattle.elab_scopes.proofs.ThreadLemmas.{one_named, all_named}

@@ -1,8 +1,7 @@
-use Rattle.std.proofs.Common.{◌≡◌, arith, Some, None, true, false}
+use Rattle.std.proofs.Common.{arith}
 use Rattle.elab_names.specs.Meanings.{frames_of}
 use Rattle.elab_scopes.specs.Tables.{given_of}
-use Rattle.elab_scopes.specs.Threads.{threaded}
-use Rattle.elab_scopes.specs.Parameters.{entered, headed, parameters_of_item}
+use Rattle.elab_scopes.specs.Parameters.{entered}
 use Rattle.elab_scopes.proofs.ThreadLemmas.{one_more, one_stops, all_done}
 use Rattle.elab_scopes.proofs.parameter.enter_all.Goals as goal
 

@@ -1,9 +1,9 @@
 -- What is left decides.
-use Rattle.std.proofs.Common.{◌≡◌, drop, Some, None, true, false}
+use Rattle.std.proofs.Common.{◌≡◌, drop}
 use Rattle.elab_names.specs.Meanings.{frames_of}
 use Rattle.elab_scopes.specs.Tables.{given_of}
 use Rattle.elab_scopes.specs.Threads.{threaded}
-use Rattle.elab_scopes.specs.Parameters.{entered, headed, parameters_of_item}
+use Rattle.elab_scopes.specs.Parameters.{headed}
 use Rattle.elab_scopes.proofs.parameter.enter_head.Given as goal
 
 abbrev pub invariant-loop-one : goal.invariant-loop-one

@@ -1,8 +1,7 @@
-use Rattle.std.proofs.Common.{◌≡◌, arith, Some, None, true, false}
+use Rattle.std.proofs.Common.{arith}
 use Rattle.elab_decls.specs.Tables.{table_of}
 use Rattle.elab_scopes.specs.Tables.{drawn_of}
-use Rattle.elab_scopes.specs.Threads.{threaded}
-use Rattle.elab_scopes.specs.Signals.{drawn, integer, signals_of_item, signals_of_port}
+use Rattle.elab_scopes.specs.Signals.{signals_of_item}
 use Rattle.elab_scopes.proofs.ThreadLemmas.{one_more, one_stops, all_done}
 use Rattle.elab_scopes.proofs.signal.+items.Goals as goal
 

@@ -1,9 +1,9 @@
 -- What is left decides.
-use Rattle.std.proofs.Common.{◌≡◌, drop, Some, None, true, false}
+use Rattle.std.proofs.Common.{◌≡◌, drop}
 use Rattle.elab_decls.specs.Tables.{table_of}
 use Rattle.elab_scopes.specs.Tables.{drawn_of}
 use Rattle.elab_scopes.specs.Threads.{threaded}
-use Rattle.elab_scopes.specs.Signals.{drawn, integer, signals_of_item, signals_of_port}
+use Rattle.elab_scopes.specs.Signals.{drawn}
 use Rattle.elab_scopes.proofs.signal.draw_all.Given as goal
 
 abbrev pub invariant-loop-one : goal.invariant-loop-one
