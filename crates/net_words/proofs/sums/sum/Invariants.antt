@@ -1,0 +1,14 @@
+use Rattle.std.proofs.Common.{◌≡◌, ◌<◌, ◌≤◌, length, drop}
+use Rattle.net_words.specs.Builds.{AreThere}
+use Rattle.net_words.specs.Sums.{sum}
+use Rattle.net_words.proofs.BuildLemmas.{behind, IsLeft}
+use Rattle.net_words.proofs.sums.sum.Given as goal
+
+abbrev pub invariant-loop-i : goal.invariant-loop-i
+invariant-loop-i l = record {
+  left : IsLeft (sum l.fn.first l.a l.b) l.fn.net l.net (behind l.made.items (sum l.carry (drop l.i l.a) (drop l.i l.b)));
+  carry : l.carry < length l.net.gates;
+  there : AreThere l.net l.made.items;
+  longer : length l.fn.net.gates ≤ length l.net.gates;
+  count : length l.made.items ≡ l.i;
+}

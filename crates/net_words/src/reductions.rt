@@ -1,0 +1,71 @@
+//! Over all bits of a word, from the first on.
+ghost use Rattle.std.specs.Prelude.{◌≡◌, ◌<◌, ◌≤◌, length, IfOk};
+ghost use Rattle.net_words.specs.Builds.{Builds, AreThere};
+ghost use Rattle.net_words.specs.Words as spec;
+
+use crate::bits::{Bitwise, bit, put};
+use net_core::{NetBuilder, NetFault, Node};
+use net_view::Gate;
+
+/// The operation of what is found so far and of each further bit.
+fn reduce_from(
+    net: &mut NetBuilder,
+    op: Bitwise,
+    found: Node,
+    word: &[Node],
+) -> Result<Node, NetFault>
+    requires found { found < length net.old.gates }
+    requires word { AreThere net.old word.now }
+    ensures builds { Builds (λ n. n) (spec.reduced_from op found word.now) net.old result net.new }
+    ensures inside { IfOk result (λ n. n < length net.new.gates) }
+    ensures longer { length net.old.gates ≤ length net.new.gates }
+{
+    let mut found = found;
+    for i in 0..word.len() {
+        found = bit(net, op, found, word[i])?;
+    }
+    Ok(found)
+}
+
+/// The operation of all bits, of none a constant.
+fn reduce(net: &mut NetBuilder, op: Bitwise, none: bool, word: &[Node]) -> Result<Node, NetFault>
+    requires { AreThere net.old word.now }
+    ensures builds { Builds (λ n. n) (spec.reduced op none word.now) net.old result net.new }
+    ensures inside { IfOk result (λ n. n < length net.new.gates) }
+    ensures longer { length net.old.gates ≤ length net.new.gates }
+{
+    match word {
+        [] => put(net, Gate::Const(none)),
+        [first, rest @ ..] => reduce_from(net, op, *first, rest),
+    }
+}
+
+/// The OR of the bits, of none 0.
+pub fn any(net: &mut NetBuilder, word: &[Node]) -> Result<Node, NetFault>
+    requires { AreThere net.old word.now }
+    ensures builds { Builds (λ n. n) (spec.any word.now) net.old result net.new }
+    ensures inside { IfOk result (λ n. n < length net.new.gates) }
+    ensures longer { length net.old.gates ≤ length net.new.gates }
+{
+    reduce(net, Bitwise::Or, false, word)
+}
+
+/// The AND of the bits, of none 1.
+pub fn all(net: &mut NetBuilder, word: &[Node]) -> Result<Node, NetFault>
+    requires { AreThere net.old word.now }
+    ensures builds { Builds (λ n. n) (spec.all word.now) net.old result net.new }
+    ensures inside { IfOk result (λ n. n < length net.new.gates) }
+    ensures longer { length net.old.gates ≤ length net.new.gates }
+{
+    reduce(net, Bitwise::And, true, word)
+}
+
+/// The XOR of the bits, of none 0.
+pub fn parity(net: &mut NetBuilder, word: &[Node]) -> Result<Node, NetFault>
+    requires { AreThere net.old word.now }
+    ensures builds { Builds (λ n. n) (spec.parity word.now) net.old result net.new }
+    ensures inside { IfOk result (λ n. n < length net.new.gates) }
+    ensures longer { length net.old.gates ≤ length net.new.gates }
+{
+    reduce(net, Bitwise::Xor, false, word)
+}
