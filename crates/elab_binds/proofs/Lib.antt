@@ -2,3 +2,4 @@ pub mod NameForms
 pub mod BookLemmas
 pub mod FlagLemmas
 pub mod PairLemmas
+pub mod MeaningLemmas

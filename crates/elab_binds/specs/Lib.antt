@@ -5,3 +5,4 @@ pub mod Connections
 pub mod Passed
 pub mod Bindings
 pub mod Boxes
+pub mod Laws
