@@ -1,12 +1,12 @@
 -- Declarations one after another.
-use Rattle.std.proofs.Common.{◌≡◌, ℕ, suc, ◌+◌, ◌<◌, ◌≤◌, List, [], ◌∷◌, ◌++◌, length, drop, get_or, Result, Ok, Err, refl, sym, ap, ◌∙◌, inl, inr, add-one}
+use Rattle.std.proofs.Common.{◌≡◌, ℕ, suc, ◌+◌, ◌<◌, ◌≤◌, List, [], ◌∷◌, ◌++◌, length, drop, get_or, Option, None, Result, Ok, Err, refl, sym, ap, ◌∙◌, inl, inr, add-one}
 use Rattle.std.proofs.Math.Seq.{drop-cons}
 use Rattle.std.proofs.lemmas.List.{drop_all}
 use Rattle.std.specs.List.{flat_map}
 use mathlib.Core.Path.{fun_ext}
 use Rattle.vlog_tree.specs.declared.port.Port.{Port}
 use Rattle.elab_decls.specs.declared.fault.DeclFault.{DeclFault}
-use Rattle.elab_decls.specs.Mentions.{Said}
+use Rattle.elab_decls.specs.Mentions.{Said, said_of_port, last_after, port_as, spread}
 use Rattle.elab_decls.specs.Tables.{Table, Stops, and_then, entries, stands, stepped, whole}
 
 -- steps in steps
@@ -55,23 +55,49 @@ pub all_entered : {X : Type 0} (f : X → List Said) (t v : Table) (xs : List X)
 unfolding entries
 all_entered f t v xs k past before = sym before ∙ ap (λ ys. entries t (flat_map f ys)) (drop_all k xs past)
 
--- ---- ports, of which those before the place k have directions
+-- ---- ports, of which those before the place k are entered, and have directions
 
-next_port : (t : Table) (xs : List Port) (k : ℕ) (x : Port) → k < length xs → x ≡ get_or xs k x → whole t (drop k xs) ≡ and_then (stands t x) (λ u. whole u (drop (k + 1) xs))
-unfolding whole
-next_port t xs k x lt is = rw add-one (ap (whole t) (drop-cons xs k x lt) ∙ ap (λ y. and_then (stands t y) (λ u. whole u (drop (suc k) xs))) (sym is))
+-- the port at k is next
+next_port : (last : Option Port) (xs : List Port) (k : ℕ) (x : Port) → k < length xs → x ≡ get_or xs k x → spread last (drop k xs) ≡ port_as last x ∷ spread (last_after last x) (drop (k + 1) xs)
+unfolding spread
+next_port last xs k x lt is = rw add-one (ap (spread last) (drop-cons xs k x lt) ∙ ap (λ y. port_as last y ∷ spread (last_after last y) (drop (suc k) xs)) (sym is))
 
-pub port_more : (t : Table) (xs : List Port) (k : ℕ) (x : Port) → k < length xs → x ≡ get_or xs k x
-    → whole t (drop k xs) ≡ whole t xs → stands t x ≡ Ok t → whole t (drop (k + 1) xs) ≡ whole t xs
-unfolding and_then
-port_more t xs k x lt is before done = sym (ap (λ r. and_then r (λ u. whole u (drop (k + 1) xs))) done) ∙ (sym (next_port t xs k x lt is) ∙ before)
+pub port_entered : (last then : Option Port) (t u v : Table) (xs : List Port) (k : ℕ) (x : Port) → k < length xs → x ≡ get_or xs k x → then ≡ last_after last x
+    → entries t (flat_map said_of_port (spread last (drop k xs))) ≡ entries v (flat_map said_of_port (spread None xs)) → entries t (said_of_port (port_as last x)) ≡ Ok u
+    → entries u (flat_map said_of_port (spread then (drop (k + 1) xs))) ≡ entries v (flat_map said_of_port (spread None xs))
+port_entered last then t u v xs k x lt is after before done =
+    ap (λ (l : Option Port). entries u (flat_map said_of_port (spread l (drop (k + 1) xs)))) after
+    ∙ (sym (passed t u (said_of_port (port_as last x)) (flat_map said_of_port (spread (last_after last x) (drop (k + 1) xs))) done)
+    ∙ (ap (λ (ps : List Port). entries t (flat_map said_of_port ps)) (sym (next_port last xs k x lt is)) ∙ before))
 
-pub port_refused : (t : Table) (fault : DeclFault) (xs : List Port) (k : ℕ) (x : Port) → k < length xs → x ≡ get_or xs k x
-    → whole t (drop k xs) ≡ whole t xs → Stops fault (stands t x) → Stops fault (whole t xs)
-unfolding and_then
-port_refused t fault xs k x lt is before (inl memory) = inl memory
-port_refused t fault xs k x lt is before (inr bad) = inr (sym before ∙ (next_port t xs k x lt is ∙ ap (λ r. and_then r (λ u. whole u (drop (k + 1) xs))) bad))
+pub port_refused : (last : Option Port) (t v : Table) (fault : DeclFault) (xs : List Port) (k : ℕ) (x : Port) → k < length xs → x ≡ get_or xs k x
+    → entries t (flat_map said_of_port (spread last (drop k xs))) ≡ entries v (flat_map said_of_port (spread None xs)) → Stops fault (entries t (said_of_port (port_as last x)))
+    → Stops fault (entries v (flat_map said_of_port (spread None xs)))
+port_refused last t v fault xs k x lt is before (inl memory) = inl memory
+port_refused last t v fault xs k x lt is before (inr bad) =
+    inr (sym before ∙ (ap (λ (ps : List Port). entries t (flat_map said_of_port ps)) (next_port last xs k x lt is)
+    ∙ stopped t fault (said_of_port (port_as last x)) (flat_map said_of_port (spread (last_after last x) (drop (k + 1) xs))) bad))
 
-pub ports_ended : (t : Table) (xs : List Port) (k : ℕ) → length xs ≤ k → whole t (drop k xs) ≡ whole t xs → whole t xs ≡ Ok t
-unfolding whole
-ports_ended t xs k past before = sym before ∙ ap (whole t) (drop_all k xs past)
+pub ports_entered : (last : Option Port) (t v : Table) (xs : List Port) (k : ℕ) → length xs ≤ k
+    → entries t (flat_map said_of_port (spread last (drop k xs))) ≡ entries v (flat_map said_of_port (spread None xs)) → entries v (flat_map said_of_port (spread None xs)) ≡ Ok t
+unfolding entries spread
+ports_entered last t v xs k past before = sym before ∙ ap (λ (ps : List Port). entries t (flat_map said_of_port (spread last ps))) (drop_all k xs past)
+
+pub port_more : (last then : Option Port) (t : Table) (xs : List Port) (k : ℕ) (x : Port) → k < length xs → x ≡ get_or xs k x → then ≡ last_after last x
+    → whole t (spread last (drop k xs)) ≡ whole t (spread None xs) → stands t (port_as last x) ≡ Ok t → whole t (spread then (drop (k + 1) xs)) ≡ whole t (spread None xs)
+unfolding and_then whole
+port_more last then t xs k x lt is after before done =
+    ap (λ (l : Option Port). whole t (spread l (drop (k + 1) xs))) after
+    ∙ (sym (ap (λ r. and_then r (λ u. whole u (spread (last_after last x) (drop (k + 1) xs)))) done)
+    ∙ (ap (whole t) (sym (next_port last xs k x lt is)) ∙ before))
+
+pub port_stops : (last : Option Port) (t : Table) (fault : DeclFault) (xs : List Port) (k : ℕ) (x : Port) → k < length xs → x ≡ get_or xs k x
+    → whole t (spread last (drop k xs)) ≡ whole t (spread None xs) → Stops fault (stands t (port_as last x)) → Stops fault (whole t (spread None xs))
+unfolding and_then whole
+port_stops last t fault xs k x lt is before (inl memory) = inl memory
+port_stops last t fault xs k x lt is before (inr bad) =
+    inr (sym before ∙ (ap (whole t) (next_port last xs k x lt is) ∙ ap (λ r. and_then r (λ u. whole u (spread (last_after last x) (drop (k + 1) xs)))) bad))
+
+pub ports_ended : (last : Option Port) (t : Table) (xs : List Port) (k : ℕ) → length xs ≤ k → whole t (spread last (drop k xs)) ≡ whole t (spread None xs) → whole t (spread None xs) ≡ Ok t
+unfolding whole spread
+ports_ended last t xs k past before = sym before ∙ ap (λ (ps : List Port). whole t (spread last ps)) (drop_all k xs past)

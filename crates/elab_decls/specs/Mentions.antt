@@ -1,6 +1,7 @@
 -- The declarations of a scope, in the order of the text.
 --     Said, said sort signed i      a declaration of the name i
 --     said_of_item i                those of an item; `generate .. endgenerate` is no scope, other generate constructs are
+--     spread last ports             each port of a list as it is declared, behind the last declared one
 --     said_of_head ps ports         those of a module's head
 --     said_of ps ports is           all of them
 use Rattle.std.specs.Prelude.{ℕ, Bool, false, List, [], ◌∷◌, ◌++◌, Option, Some, None}
@@ -49,13 +50,30 @@ said_by_parts _ = []
 unfoldable pub said_of_item : Item → List Said
 said_of_item = fold-Item (List Said) said_by_parts
 
+-- the last port that is declared, after one more
+unfoldable pub last_after : Option Port → Port → Option Port
+last_after last (port.Declared d shape i) = Some (port.Declared d shape i)
+last_after last (port.Named i) = last
+
+-- a port behind the last declared one: a name alone is as that one
+unfoldable pub port_as : Option Port → Port → Port
+port_as last (port.Declared d shape i) = port.Declared d shape i
+port_as None (port.Named i) = port.Named i
+port_as (Some (port.Declared d shape j)) (port.Named i) = port.Declared d shape i
+port_as (Some (port.Named j)) (port.Named i) = port.Named i
+
+-- each port of a list as it is declared: in `input [3:0] a, b` both are
+unfoldable pub spread : Option Port → List Port → List Port
+spread last [] = []
+spread last (p ∷ ports) = port_as last p ∷ spread (last_after last p) ports
+
 unfoldable pub said_of_port : Port → List Said
 said_of_port (port.Declared d shape name) = said (Headed d) shape.signed name ∷ []
 said_of_port (port.Named name) = said Listed false name ∷ []
 
 -- those of a module's head
 abbrev pub said_of_head : List Parameter → List Port → List Said
-said_of_head parameters ports = all_said (λ p. Some p.binding.name) Thing false parameters ++ flat_map said_of_port ports
+said_of_head parameters ports = all_said (λ p. Some p.binding.name) Thing false parameters ++ flat_map said_of_port (spread None ports)
 
 -- all of a scope; a generate block has no head
 abbrev pub said_of : List Parameter → List Port → List Item → List Said

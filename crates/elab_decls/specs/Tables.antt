@@ -22,7 +22,7 @@ use Rattle.elab_decls.specs.declared.fault.DeclFault.TheVariants.{Memory, NoPort
 use Rattle.elab_decls.specs.declared.table.Entries.{Entries}
 use Rattle.elab_decls.specs.declared.table.Kept.{Kept}
 use Rattle.elab_decls.specs.Entries.{entered}
-use Rattle.elab_decls.specs.Mentions.{Said, said_of}
+use Rattle.elab_decls.specs.Mentions.{Said, said_of, spread}
 
 -- the declared names in the order in which they are first met, and what is known of each
 pub record Table : Type 0 where
@@ -75,7 +75,7 @@ unfoldable pub is_directed : Option Entry → Bool
 is_directed None = false
 is_directed (Some e) = is_some e.direction
 
--- a port that stands alone in the list has one
+-- a port that stands alone in the list has a direction
 unfoldable pub stands : Table → Port → Result Table DeclFault
 stands t (port.Declared d shape i) = Ok t
 stands t (port.Named i) = if is_directed (t.at i.name) then Ok t else Err (NoPort i.name i.place)
@@ -87,7 +87,7 @@ whole t (p ∷ ports) = and_then (stands t p) (λ u. whole u ports)
 
 -- what a scope declares; a generate block has no head
 abbrev pub declared_in : List Parameter → List Port → List Item → Result Table DeclFault
-declared_in parameters ports items = and_then (entries no_entries (said_of parameters ports items)) (λ t. whole t ports)
+declared_in parameters ports items = and_then (entries no_entries (said_of parameters ports items)) (λ t. whole t (spread None ports))
 
 -- what a hashed table holds
 abbrev pub entries_at : Kept → List ℕ → Option Entry

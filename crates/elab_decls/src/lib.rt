@@ -17,5 +17,5 @@ pub use entry::{Entry, Form};
 pub use fault::DeclFault;
 pub use mention::{Mention, Sort};
 pub use naming::Naming;
-pub use reader::declared;
+pub use reader::{declared, last_after};
 pub use table::Entries;

@@ -1,7 +1,9 @@
 //! Reading the declarations of a scope, one after another.
-ghost use Rattle.std.specs.Prelude.{Some};
+ghost use Rattle.std.specs.Prelude.{◌≡◌, None, Some};
 ghost use Rattle.std.specs.List.{flat_map};
-ghost use Rattle.elab_decls.specs.Mentions.{all_said, said_if, said_of_head, said_of_item, said_of_port};
+ghost use Rattle.std.specs.Option.{option_copied};
+ghost use Rattle.vlog_tree.specs.declared.port.Port.TheVariants as port;
+ghost use Rattle.elab_decls.specs.Mentions.{all_said, last_after, port_as, said_if, said_of_head, said_of_item, said_of_port, spread};
 ghost use Rattle.elab_decls.specs.Tables.{Answers, Changes, declared_in, entries, stands, table_of, whole};
 
 use crate::entry::Refusal;
@@ -67,29 +69,66 @@ fn enter_all<N: Naming>(
     Ok(())
 }
 
+/// The last port that is declared, after one more.
+#[tactic(auto, unfolding(crate::specs::Mentions::last_after))]
+pub fn last_after<'a>(last: Option<&'a Port>, port: &'a Port) -> Option<&'a Port>
+    ensures { option_copied result ≡ last_after (option_copied last.entry) port.now }
+{
+    match port {
+        Port::Declared(_, _, _) => Some(port),
+        Port::Named(_) => last,
+    }
+}
+
 /// The list of ports.
 fn enter_ports(alloc: Global, table: &mut Entries, ports: &[Port]) -> Result<(), DeclFault>
-    ensures { Changes result (table_of table.new) (entries (table_of table.old) (flat_map said_of_port ports.now)) }
+    ensures { Changes result (table_of table.new) (entries (table_of table.old) (flat_map said_of_port (spread None ports.now))) }
 {
+    let mut last = None;
     for port in ports {
-        match enter_port(alloc, table, port) {
+        match enter_port(alloc, table, last, port) {
             Ok(()) => {}
             Err(fault) => return Err(fault),
         }
+        last = last_after(last, port);
     }
     Ok(())
 }
 
-/// One port in the list.
-#[tactic(auto, unfolding(crate::specs::Mentions::said_of_port, crate::specs::Mentions::said_if))]
-fn enter_port(alloc: Global, table: &mut Entries, port: &Port) -> Result<(), DeclFault>
-    ensures { Changes result (table_of table.new) (entries (table_of table.old) (said_of_port port.now)) }
+/// One port in the list, behind the last declared one.
+#[tactic(auto, unfolding(crate::specs::Mentions::port_as, crate::specs::Mentions::said_of_port, crate::specs::Mentions::said_if))]
+fn enter_port(
+    alloc: Global,
+    table: &mut Entries,
+    last: Option<&Port>,
+    port: &Port,
+) -> Result<(), DeclFault>
+    ensures { Changes result (table_of table.new) (entries (table_of table.old) (said_of_port (port_as (option_copied last.entry) port.now))) }
 {
     match port {
         Port::Declared(direction, shape, name) => {
             enter(alloc, table, name, Sort::Headed(*direction), shape.signed)
         }
-        Port::Named(name) => enter(alloc, table, name, Sort::Listed, false),
+        Port::Named(name) => enter_named(alloc, table, last, name),
+    }
+}
+
+/// A name alone in the list, behind the last declared port.
+#[tactic(auto, unfolding(crate::specs::Mentions::port_as, crate::specs::Mentions::said_of_port, crate::specs::Mentions::said_if))]
+fn enter_named(
+    alloc: Global,
+    table: &mut Entries,
+    last: Option<&Port>,
+    name: &Ident,
+) -> Result<(), DeclFault>
+    ensures { Changes result (table_of table.new) (entries (table_of table.old) (said_of_port (port_as (option_copied last.entry) (port.Named name.now)))) }
+{
+    match last {
+        Some(Port::Declared(direction, shape, _)) => {
+            enter(alloc, table, name, Sort::Headed(*direction), shape.signed)
+        }
+        Some(Port::Named(_)) => enter(alloc, table, name, Sort::Listed, false),
+        None => enter(alloc, table, name, Sort::Listed, false),
     }
 }
 
@@ -186,25 +225,57 @@ pub fn declared(
 
 /// Whether each name that stands alone in the list of ports has a direction.
 fn whole(alloc: Global, table: &Entries, ports: &[Port]) -> Result<(), DeclFault>
-    ensures { Changes result (table_of table.now) (whole (table_of table.now) ports.now) }
+    ensures { Changes result (table_of table.now) (whole (table_of table.now) (spread None ports.now)) }
 {
+    let mut last = None;
     for port in ports {
-        match is_whole(alloc, table, port) {
+        match is_whole(alloc, table, last, port) {
             Ok(()) => {}
             Err(fault) => return Err(fault),
         }
+        last = last_after(last, port);
     }
     Ok(())
 }
 
-/// Whether a port has a direction.
-#[tactic(auto, unfolding(crate::specs::Tables::stands, crate::specs::Tables::fault_of))]
-fn is_whole(alloc: Global, table: &Entries, port: &Port) -> Result<(), DeclFault>
-    ensures { Changes result (table_of table.now) (stands (table_of table.now) port.now) }
+/// Whether a port has a direction, behind the last declared one.
+#[tactic(auto, unfolding(crate::specs::Mentions::port_as, crate::specs::Tables::stands, crate::specs::Tables::fault_of))]
+fn is_whole(
+    alloc: Global,
+    table: &Entries,
+    last: Option<&Port>,
+    port: &Port,
+) -> Result<(), DeclFault>
+    ensures { Changes result (table_of table.now) (stands (table_of table.now) (port_as (option_copied last.entry) port.now)) }
 {
-    let Port::Named(name) = port else {
-        return Ok(());
-    };
+    match port {
+        Port::Declared(_, _, _) => Ok(()),
+        Port::Named(name) => is_directed(alloc, table, last, name),
+    }
+}
+
+/// Whether a name alone in the list has a direction, behind the last declared port.
+#[tactic(auto, unfolding(crate::specs::Mentions::port_as, crate::specs::Tables::stands, crate::specs::Tables::fault_of))]
+fn is_directed(
+    alloc: Global,
+    table: &Entries,
+    last: Option<&Port>,
+    name: &Ident,
+) -> Result<(), DeclFault>
+    ensures { Changes result (table_of table.now) (stands (table_of table.now) (port_as (option_copied last.entry) (port.Named name.now))) }
+{
+    match last {
+        Some(Port::Declared(_, _, _)) => Ok(()),
+        Some(Port::Named(_)) => has_direction(alloc, table, name),
+        None => has_direction(alloc, table, name),
+    }
+}
+
+/// Whether a name has a direction.
+#[tactic(auto, unfolding(crate::specs::Tables::stands, crate::specs::Tables::fault_of))]
+fn has_direction(alloc: Global, table: &Entries, name: &Ident) -> Result<(), DeclFault>
+    ensures { Changes result (table_of table.now) (stands (table_of table.now) (port.Named name.now)) }
+{
     if table.has_direction(name.name.as_slice()) {
         return Ok(());
     }

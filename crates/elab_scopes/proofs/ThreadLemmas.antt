@@ -1,8 +1,10 @@
 -- Steps one after another, of which those before the place k are taken.
-use Rattle.std.proofs.Common.{◌≡◌, ℕ, suc, ◌+◌, ◌<◌, ◌≤◌, List, [], ◌∷◌, length, map, drop, get_or, Ok, refl, sym, ap, ◌∙◌, inl, inr, add-one}
+use Rattle.std.proofs.Common.{◌≡◌, ℕ, suc, ◌+◌, ◌<◌, ◌≤◌, List, [], ◌∷◌, length, map, drop, get_or, Option, None, Ok, refl, sym, ap, ◌∙◌, inl, inr, add-one}
 use Rattle.std.proofs.Math.Seq.{drop-cons}
 use Rattle.std.proofs.lemmas.List.{drop_all}
 use mathlib.Core.Path.{fun_ext}
+use Rattle.vlog_tree.specs.declared.port.Port.{Port}
+use Rattle.elab_decls.specs.Mentions.{last_after, port_as, spread}
 use Rattle.elab_names.specs.declared.fault.ElabFault.{ElabFault}
 use Rattle.elab_names.specs.Answers.{Or_fault, and_then}
 use Rattle.elab_names.specs.declared.meaning.Meaning.TheVariants.{Other}
@@ -54,3 +56,29 @@ one_named f g v ns k n lt is before done =
 pub all_named : (f v : Frames) (ns : List (List ℕ)) (k : ℕ) → length ns ≤ k → all_other f (drop k ns) ≡ all_other v ns → f ≡ all_other v ns
 unfolding all_other
 all_named f v ns k past before = sym (ap (all_other f) (drop_all k ns past)) ∙ before
+
+-- ---- ports, of which those before the place k are taken
+
+next_port : (last : Option Port) (xs : List Port) (k : ℕ) (x : Port) → k < length xs → x ≡ get_or xs k x → spread last (drop k xs) ≡ port_as last x ∷ spread (last_after last x) (drop (k + 1) xs)
+unfolding spread
+next_port last xs k x lt is = rw add-one (ap (spread last) (drop-cons xs k x lt) ∙ ap (λ y. port_as last y ∷ spread (last_after last y) (drop (suc k) xs)) (sym is))
+
+pub port_more : {S : Type 0} (step : S → Port → Or_fault S) (last then : Option Port) (s t v : S) (xs : List Port) (k : ℕ) (x : Port) → k < length xs → x ≡ get_or xs k x → then ≡ last_after last x
+    → threaded step s (spread last (drop k xs)) ≡ threaded step v (spread None xs) → step s (port_as last x) ≡ Ok t → threaded step t (spread then (drop (k + 1) xs)) ≡ threaded step v (spread None xs)
+unfolding and_then threaded
+port_more step last then s t v xs k x lt is after before done =
+    ap (λ (l : Option Port). threaded step t (spread l (drop (k + 1) xs))) after
+    ∙ (sym (ap (λ r. and_then r (λ u. threaded step u (spread (last_after last x) (drop (k + 1) xs)))) done)
+    ∙ (ap (threaded step s) (sym (next_port last xs k x lt is)) ∙ before))
+
+pub port_stops : {S : Type 0} (step : S → Port → Or_fault S) (last : Option Port) (s v : S) (fault : ElabFault) (xs : List Port) (k : ℕ) (x : Port) → k < length xs → x ≡ get_or xs k x
+    → threaded step s (spread last (drop k xs)) ≡ threaded step v (spread None xs) → Stops fault (step s (port_as last x)) → Stops fault (threaded step v (spread None xs))
+unfolding and_then threaded
+port_stops step last s v fault xs k x lt is before (inl memory) = inl memory
+port_stops step last s v fault xs k x lt is before (inr bad) =
+    inr (sym before ∙ (ap (threaded step s) (next_port last xs k x lt is) ∙ ap (λ r. and_then r (λ u. threaded step u (spread (last_after last x) (drop (k + 1) xs)))) bad))
+
+pub ports_done : {S : Type 0} (step : S → Port → Or_fault S) (last : Option Port) (s v : S) (xs : List Port) (k : ℕ) → length xs ≤ k
+    → threaded step s (spread last (drop k xs)) ≡ threaded step v (spread None xs) → threaded step v (spread None xs) ≡ Ok s
+unfolding threaded spread
+ports_done step last s v xs k past before = sym before ∙ ap (λ (ps : List Port). threaded step s (spread last ps)) (drop_all k xs past)

@@ -23,6 +23,7 @@ use Rattle.design_form.specs.declared.signal.SignalKind.TheVariants as kind
 use Rattle.elab_decls.specs.declared.entry.Entry.{Entry}
 use Rattle.elab_decls.specs.declared.entry.Form.{Form}
 use Rattle.elab_decls.specs.declared.entry.Form.TheVariants as form
+use Rattle.elab_decls.specs.Mentions.{spread}
 use Rattle.elab_names.specs.declared.meaning.Known.{Known}
 use Rattle.elab_names.specs.declared.meaning.Meaning.TheVariants as meaning
 use Rattle.elab_names.specs.Answers.{Or_fault, ◌>>=◌}
@@ -105,5 +106,5 @@ signals_of_port prefix entries d (port.Named i) = Ok d
 -- after those of a scope; a generate block has no ports
 unfoldable pub signals : List ℕ → Entries → Drawn → List Port → List Item → Or_fault Drawn
 signals prefix entries d ports items = do
-  after ← threaded (signals_of_port prefix entries) d ports
+  after ← threaded (signals_of_port prefix entries) d (spread None ports)
   threaded (signals_of_item prefix entries) after items

@@ -1,5 +1,8 @@
 //! The signals of a scope.
-ghost use Rattle.std.specs.Prelude.{◌≡◌, ◌++◌, IfOk, OnOk, Some};
+ghost use Rattle.std.specs.Prelude.{◌≡◌, true, [], ◌∷◌, ◌++◌, IfOk, OnOk, None, Some};
+ghost use Rattle.std.specs.Option.{option_copied};
+ghost use Rattle.vlog_tree.specs.declared.port.Port.TheVariants as port;
+ghost use Rattle.elab_decls.specs.Mentions.{port_as, spread};
 ghost use Rattle.elab_decls.specs.Tables.{table_of};
 ghost use Rattle.elab_scopes.specs.Signals.{drawn, integer, is_input, kind_in, known, placed, shaped, signals, signals_of_item, signals_of_port, with_signal};
 ghost use Rattle.elab_scopes.specs.Tables.{Changes, drawn_of};
@@ -9,7 +12,7 @@ use crate::drawing::Drawing;
 use crate::placed::Placed;
 use crate::ranges::vector;
 use design_form::{Bounds, Signal, SignalKind};
-use elab_decls::{Entries, Entry, Form, Naming};
+use elab_decls::{Entries, Entry, Form, Naming, last_after};
 use elab_names::{ElabFault, Known, Meaning};
 use rdc_outside::Seq;
 use std::alloc::{AllocError, Global};
@@ -293,39 +296,75 @@ fn draw_item(
     }
 }
 
-/// That of a port in the list.
-#[tactic(auto, unfolding(crate::specs::Signals::signals_of_port, crate::specs::Signals::shaped, crate::specs::Threads::threaded, elab_names::specs::Answers::and_then))]
+/// That of a port that is declared in the list.
+#[tactic(auto, unfolding(crate::specs::Signals::shaped, crate::specs::Threads::threaded, elab_names::specs::Answers::and_then))]
+fn draw_headed(
+    alloc: Global,
+    d: &mut Drawing,
+    manner: &Manner<'_>,
+    shape: &Shape,
+    name: &Ident,
+) -> Result<(), ElabFault>
+    ensures { Changes result (drawn_of d.new) (shaped Some manner.now.prefix.now (table_of manner.now.entries.now).at manner.now.gives shape.now (name.now ∷ []) (drawn_of d.old)) }
+{
+    let range = vector(alloc, &shape.range, &d.scope)?;
+    draw(alloc, d, manner, range, name)
+}
+
+/// That of a name alone in the list, behind the last declared port.
+#[tactic(auto, unfolding(crate::specs::Signals::signals_of_port, elab_decls::specs::Mentions::port_as))]
+fn draw_listed(
+    alloc: Global,
+    d: &mut Drawing,
+    manner: &Manner<'_>,
+    last: Option<&Port>,
+    name: &Ident,
+) -> Result<(), ElabFault>
+    requires { manner.now.gives ≡ true }
+    ensures { Changes result (drawn_of d.new) (signals_of_port manner.now.prefix.now (table_of manner.now.entries.now).at (drawn_of d.old) (port_as (option_copied last.entry) (port.Named name.now))) }
+{
+    match last {
+        Some(Port::Declared(_, shape, _)) => draw_headed(alloc, d, manner, shape, name),
+        Some(Port::Named(_)) => Ok(()),
+        None => Ok(()),
+    }
+}
+
+/// That of a port in the list, behind the last declared one.
+#[tactic(auto, unfolding(crate::specs::Signals::signals_of_port, elab_decls::specs::Mentions::port_as))]
 fn draw_port(
     alloc: Global,
     d: &mut Drawing,
-    prefix: &[u8],
-    entries: &Entries,
+    manner: &Manner<'_>,
+    last: Option<&Port>,
     port: &Port,
 ) -> Result<(), ElabFault>
-    ensures { Changes result (drawn_of d.new) (signals_of_port prefix.now (table_of entries.now).at (drawn_of d.old) port.now) }
+    requires { manner.now.gives ≡ true }
+    ensures { Changes result (drawn_of d.new) (signals_of_port manner.now.prefix.now (table_of manner.now.entries.now).at (drawn_of d.old) (port_as (option_copied last.entry) port.now)) }
 {
-    let Port::Declared(_, shape, name) = port else {
-        return Ok(());
-    };
-    let range = vector(alloc, &shape.range, &d.scope)?;
-    draw(alloc, d, &Manner::new(prefix, entries, true), range, name)
+    match port {
+        Port::Declared(_, shape, name) => draw_headed(alloc, d, manner, shape, name),
+        Port::Named(name) => draw_listed(alloc, d, manner, last, name),
+    }
 }
 
 /// Those of a list of ports.
 fn draw_ports(
     alloc: Global,
     d: &mut Drawing,
-    prefix: &[u8],
-    entries: &Entries,
+    manner: &Manner<'_>,
     ports: &[Port],
 ) -> Result<(), ElabFault>
-    ensures { Changes result (drawn_of d.new) (threaded (signals_of_port prefix.now (table_of entries.now).at) (drawn_of d.old) ports.now) }
+    requires { manner.now.gives ≡ true }
+    ensures { Changes result (drawn_of d.new) (threaded (signals_of_port manner.now.prefix.now (table_of manner.now.entries.now).at) (drawn_of d.old) (spread None ports.now)) }
 {
+    let mut last = None;
     for port in ports {
-        match draw_port(alloc, d, prefix, entries, port) {
+        match draw_port(alloc, d, manner, last, port) {
             Ok(()) => {}
             Err(fault) => return Err(fault),
         }
+        last = last_after(last, port);
     }
     Ok(())
 }
@@ -347,6 +386,6 @@ pub fn signals(
 ) -> Result<(), ElabFault>
     ensures { Changes result (drawn_of d.new) (signals prefix.now (table_of entries.now).at (drawn_of d.old) ports.now items.now) }
 {
-    draw_ports(alloc, d, prefix, entries, ports)?;
+    draw_ports(alloc, d, &Manner::new(prefix, entries, true), ports)?;
     draw_items(alloc, d, prefix, entries, items)
 }

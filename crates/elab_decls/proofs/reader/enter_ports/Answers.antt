@@ -1,16 +1,16 @@
 use Rattle.std.proofs.Common.{arith}
-use Rattle.elab_decls.specs.Mentions.{said_of_port}
+use Rattle.std.specs.Option.{option_copied}
 use Rattle.elab_decls.specs.Tables.{table_of}
-use Rattle.elab_decls.proofs.ListLemmas.{one_more, one_refused, all_entered}
+use Rattle.elab_decls.proofs.ListLemmas.{port_entered, port_refused, ports_entered}
 use Rattle.elab_decls.proofs.reader.enter_ports.Goals as goal
 
 pub loop-port-preserved : goal.loop-port-preserved
 loop-port-preserved c =
-    one_more said_of_port (table_of c.loop-port.table) (table_of c.enter_port.new.table) (table_of c.args.table.now) c.args.ports.now c.loop-port.port-index c.port-item.result (omega arith) c.port-item.is c.loop-port.invariant c.in-Ok.ensures
+    port_entered (option_copied c.loop-port.last) (option_copied c.last_after-last.result) (table_of c.loop-port.table) (table_of c.enter_port.new.table) (table_of c.args.table.now) c.args.ports.now c.loop-port.port-index c.port-item.result (omega arith) c.port-item.is c.last_after-last.ensures c.loop-port.invariant c.in-Ok.ensures
 
 pub returns-in-Err : goal.returns-in-Err
 returns-in-Err c =
-    one_refused said_of_port (table_of c.loop-port.table) (table_of c.args.table.now) c.in-Err.fault c.args.ports.now c.loop-port.port-index c.port-item.result (omega arith) c.port-item.is c.loop-port.invariant c.in-Err.ensures
+    port_refused (option_copied c.loop-port.last) (table_of c.loop-port.table) (table_of c.args.table.now) c.in-Err.fault c.args.ports.now c.loop-port.port-index c.port-item.result (omega arith) c.port-item.is c.loop-port.invariant c.in-Err.ensures
 
 pub returns : goal.returns
-returns c = all_entered said_of_port (table_of c.loop-port.table) (table_of c.args.table.now) c.args.ports.now c.loop-port.port-index (omega arith) c.loop-port.invariant
+returns c = ports_entered (option_copied c.loop-port.last) (table_of c.loop-port.table) (table_of c.args.table.now) c.args.ports.now c.loop-port.port-index (omega arith) c.loop-port.invariant
