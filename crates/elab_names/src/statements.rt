@@ -121,6 +121,40 @@ fn assign_in(
     Ok(Stmt::Assign(place, target, by, value))
 }
 
+/// `if`, of which what stands behind `else` comes last.
+#[tactic(auto, unfolding(crate::specs::Answers::and_then))]
+fn branch_else(
+    alloc: Global,
+    place: Place,
+    test: Expr,
+    yes: Stmt,
+    no: Result<Option<Boxed<Stmt>>, ElabFault>,
+) -> Result<Stmt, ElabFault>
+    ensures { (b : Or_fault (Option Stmt)) → Answers (λ o. o) no b → Answers (λ s. s) result (and_then b (λ y. Ok (stmt.If place test yes y))) }
+{
+    match no {
+        Ok(no) => Ok(branch(alloc, place, test, yes, no)?),
+        Err(fault) => Err(fault),
+    }
+}
+
+/// `if`, of which the first branch comes next.
+#[tactic(auto, unfolding(crate::specs::Answers::and_then))]
+fn branch_then(
+    alloc: Global,
+    place: Place,
+    test: Expr,
+    yes: Result<Stmt, ElabFault>,
+    no: Result<Option<Boxed<Stmt>>, ElabFault>,
+) -> Result<Stmt, ElabFault>
+    ensures { (a : Or_fault Stmt) (b : Or_fault (Option Stmt)) → Answers (λ s. s) yes a → Answers (λ o. o) no b → Answers (λ s. s) result (and_then a (λ x. and_then b (λ y. Ok (stmt.If place test x y)))) }
+{
+    match yes {
+        Ok(yes) => branch_else(alloc, place, test, yes, no),
+        Err(fault) => Err(fault),
+    }
+}
+
 /// `if`, of which all parts were put in.
 #[tactic(auto, unfolding(crate::specs::Answers::and_then))]
 fn branch_of(
@@ -132,10 +166,10 @@ fn branch_of(
 ) -> Result<Stmt, ElabFault>
     ensures { (t : Or_fault Expr) (a : Or_fault Stmt) (b : Or_fault (Option Stmt)) → Answers (λ e. e) test t → Answers (λ s. s) yes a → Answers (λ o. o) no b → Answers (λ s. s) result (and_then t (λ o. and_then a (λ x. and_then b (λ y. Ok (stmt.If place o x y))))) }
 {
-    let test = test?;
-    let yes = yes?;
-    let no = no?;
-    Ok(branch(alloc, place, test, yes, no)?)
+    match test {
+        Ok(test) => branch_then(alloc, place, test, yes, no),
+        Err(fault) => Err(fault),
+    }
 }
 
 /// `case`, of which all parts were put in.
