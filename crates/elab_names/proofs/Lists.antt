@@ -1,6 +1,6 @@
 -- What a loop over parts has gathered, and what is left: `more out r` is `out` with what the rest answers behind it.
-use Rattle.std.proofs.Common.{◌≡◌, ◌⊎◌, ℕ, ◌+◌, ◌<◌, ◌≤◌, List, [], ◌∷◌, ◌++◌, map, drop, length, get_or, Ok, Err, add-one, inl, inr, refl, sym, ap, ◌∙◌, ⊎_elim, arith}
-use Rattle.std.proofs.Math.Seq.{drop-cons, drop-length}
+use Rattle.std.proofs.Common.{◌≡◌, ◌⊎◌, ℕ, ◌+◌, ◌<◌, ◌≤◌, List, [], ◌∷◌, ◌++◌, map, drop, length, get_or, Ok, Err, add-one, inl, inr, refl, sym, ap, ◌∙◌, ⊎_elim}
+use Rattle.std.proofs.Math.Seq.{drop-cons}
 use Rattle.std.proofs.lemmas.List.{append-nil, append_assoc, drop_all}
 use Rattle.elab_names.specs.declared.fault.ElabFault.{ElabFault}
 use Rattle.elab_names.specs.declared.fault.ElabFault.TheVariants.{Memory}

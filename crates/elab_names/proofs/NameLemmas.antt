@@ -13,7 +13,7 @@ use Rattle.std.proofs.lemmas.Cmp.{nat_list_eq_equiv}
 use Rattle.std.proofs.lemmas.List.{reverse-append, take-append-drop}
 use Rattle.elab_names.specs.declared.meaning.Meaning.{Meaning}
 use Rattle.elab_names.specs.declared.frame.Frame.{Frame}
-use Rattle.elab_names.specs.Meanings.{Frames, found, with_name, names_of, names_of_all}
+use Rattle.elab_names.specs.Meanings.{found, with_name, names_of, names_of_all}
 
 -- no key is equal to two names
 apart : (name other key : List ℕ) → bytes_eq name other ≡ false → bytes_eq name key ≡ true → bytes_eq other key ≡ false

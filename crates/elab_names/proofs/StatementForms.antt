@@ -1,5 +1,5 @@
 -- What each form of statement is in a scope.
-use Rattle.std.proofs.Common.{◌≡◌, ℕ, List, [], ◌∷◌, map, Option, Some, None, Ok, Err, refl, sym, ap, subst, ◌∙◌}
+use Rattle.std.proofs.Common.{◌≡◌, List, [], ◌∷◌, map, Option, Some, None, Ok, refl, sym, ap, subst, ◌∙◌}
 use Rattle.std.specs.Option.{option_map}
 use Rattle.rdc_outside.specs.declared.source.Place.{Place}
 use Rattle.vlog_tree.specs.declared.ident.Ident.{Ident}
@@ -50,10 +50,17 @@ statement-For frames place header body = ap (statement_in frames) (sym (rolls-Fo
 
 -- ---- what is answered for the parts is answered for the whole
 
-pub answers-If : (frames : Frames) (e : Stmt) (test : Expr) (x a : Stmt) (no : Option Stmt) (place : Place) (r : Or_fault Stmt) → e ≡ If place test x no → a ≡ x
-    → Answers (λ z. z) r (and_then (put_in frames test) (λ t. and_then (statement_in frames a) (λ p. and_then (optional (option_map (statement_in frames) no)) (λ q. Ok (If place t p q))))) → Answers (λ z. z) r (statement_in frames e)
-answers-If frames e test x a no place r is left answer =
-    subst (λ (w : Or_fault Stmt). Answers (λ z. z) r w) (sym (statement-If frames place test a no) ∙ ap (statement_in frames) (ap (λ (p : Stmt). If place test p no) left ∙ sym is)) answer
+-- after a part that has a value
+pub answers-next : {A : Type 0} (r : Or_fault Stmt) (given t : Or_fault A) (x : A) (f : A → Or_fault Stmt) → given ≡ Ok x → Answers (λ z. z) given t → Answers (λ z. z) r (f x) → Answers (λ z. z) r (and_then t f)
+unfolding and_then
+answers-next {A} r given t x f is told answer =
+    let same : t ≡ Ok x = subst (λ (q : Or_fault A). Answers (λ z. z) q t) is told in
+    subst (λ (q : Or_fault A). Answers (λ z. z) r (and_then q f)) (sym same) answer
+
+pub answers-If : (frames : Frames) (e : Stmt) (test : Expr) (x a : Stmt) (o : Option Stmt) (place : Place) (r : Or_fault Stmt) → e ≡ If place test x o → a ≡ x
+    → Answers (λ z. z) r (and_then (put_in frames test) (λ t. and_then (statement_in frames a) (λ p. and_then (optional (option_map (statement_in frames) o)) (λ q. Ok (If place t p q))))) → Answers (λ z. z) r (statement_in frames e)
+answers-If frames e test x a o place r is left answer =
+    subst (λ (w : Or_fault Stmt). Answers (λ z. z) r w) (sym (statement-If frames place test a o) ∙ ap (statement_in frames) (ap (λ (p : Stmt). If place test p o) left ∙ sym is)) answer
 
 pub answers-Case : (frames : Frames) (e : Stmt) (matching : Matching) (selector : Expr) (arms items : List (Arm Stmt)) (place : Place) (r : Or_fault Stmt) → e ≡ Case place matching selector arms → items ≡ arms
     → Answers (λ z. z) r (and_then (put_in frames selector) (λ s. and_then (gathered (map (arm_with frames) items)) (λ xs. Ok (Case place matching s xs)))) → Answers (λ z. z) r (statement_in frames e)
@@ -64,6 +71,13 @@ pub answers-For : (frames : Frames) (e : Stmt) (header : Loop) (x a : Stmt) (pla
     → Answers (λ z. z) r (and_then (loop_in frames header) (λ h. and_then (statement_in frames a) (λ p. Ok (For place h p)))) → Answers (λ z. z) r (statement_in frames e)
 answers-For frames e header x a place r is left answer =
     subst (λ (w : Or_fault Stmt). Answers (λ z. z) r w) (sym (statement-For frames place header a) ∙ ap (statement_in frames) (ap (λ (p : Stmt). For place header p) left ∙ sym is)) answer
+
+pub answers-arm : (frames : Frames) (arm : Arm Stmt) (labels : List Expr) (body : Stmt) (r : Or_fault (Arm Stmt)) → labels ≡ arm.labels → body ≡ arm.body
+    → Answers (λ z. z) r (and_then (gathered (map (put_in frames) labels)) (λ x. and_then (statement_in frames body) (λ y. Ok (record { place = arm.place; labels = x; body = y })))) → Answers (λ z. z) r (arm_with frames arm)
+unfolding arm_in
+answers-arm frames arm labels body r same own answer =
+    let whole : List Expr → Stmt → Or_fault (Arm Stmt) = λ ls s. and_then (gathered (map (put_in frames) ls)) (λ x. and_then (statement_in frames s) (λ y. Ok (record { place = arm.place; labels = x; body = y }))) in
+    subst (λ (w : Or_fault (Arm Stmt)). Answers (λ z. z) r w) (ap (λ (ls : List Expr). whole ls body) same ∙ ap (whole arm.labels) own) answer
 
 -- each form of statement, for tactics
 pub ruleset forms = (statement-Empty, statement-Block, statement-Assign, statement-If, statement-Case, statement-For)

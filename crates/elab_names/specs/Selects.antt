@@ -1,5 +1,5 @@
 -- Numbers in the place of constants, and their bits, whose positions are width - 1 down to 0.
---     as_number place v                a constant as a number, which no written number is equal to
+--     as_number place v                a constant as a number: in binary, without a size
 --     holds_name e                     an expression with a name in it
 --     piece v start n                  n bits of a constant from a position up
 --     fits how w i j, start_of how i j, count_of how i j
@@ -23,7 +23,7 @@ use Rattle.vlog_const.specs.Constants.{value_of}
 use Rattle.elab_names.specs.declared.fault.ElabFault.TheVariants.{BadRange, NotBuilt}
 use Rattle.elab_names.specs.Answers.{Or_fault, ◌>>=◌, lifted}
 
--- a constant as a number; a written one that is binary has a size
+-- a constant as a number; of written ones only those with a base and no size, as 'b1, are like it
 abbrev pub as_number : Place → ConstValue → Expr
 as_number place v = expr.Number place (record { sized = false; signed = v.signed; base = base.Binary; width = v.width; bits = v.bits; z = 0 })
 

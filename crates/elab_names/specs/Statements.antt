@@ -2,7 +2,7 @@
 --     counter place name m           the integer that a name means
 --     statement_in frames s          a statement
 --     control_in frames c            what a process waits for
-use Rattle.std.specs.Prelude.{ℕ, Bool, true, false, List, map, Option, Some, None, Ok, Err}
+use Rattle.std.specs.Prelude.{ℕ, List, map, Option, Some, None, Ok, Err}
 use Rattle.std.specs.Option.{option_map}
 use Rattle.rdc_outside.specs.declared.source.Place.{Place}
 use Rattle.vlog_tree.specs.declared.ident.Ident.{Ident}

@@ -6,7 +6,7 @@ ghost use Rattle.elab_names.specs.declared.fault.ElabFault.TheVariants.{Const, M
 ghost use Rattle.elab_names.specs.Answers.{Answers};
 ghost use Rattle.elab_names.specs.Expressions.{meant};
 ghost use Rattle.elab_names.specs.Targets.{assignable};
-ghost use Rattle.elab_names.specs.Statements.{changing, counter};
+ghost use Rattle.elab_names.specs.Statements.{changing, counter, of_kind};
 ghost use Rattle.elab_names.specs.Meanings.{found, frames_of};
 
 use crate::fault::ElabFault;

@@ -65,7 +65,13 @@ fn events_in(alloc: Global, events: &[Event], scope: &Scope) -> Result<Items<Eve
 {
     let mut out = Items::from_vec(Vec::with_capacity(alloc, events.len())?);
     for event in events {
-        out.push(event_in(alloc, event, scope)?)?;
+        match event_in(alloc, event, scope) {
+            Ok(event) => match out.push(event) {
+                Ok(()) => {}
+                Err(_) => return Err(ElabFault::Memory),
+            },
+            Err(fault) => return Err(fault),
+        }
     }
     Ok(out)
 }

@@ -14,7 +14,7 @@ use std::alloc::{AllocError, Global};
 use vlog_const::{ConstValue, Env, Whole, value};
 use vlog_tree::{Base, Expr, Number, Part};
 
-/// A constant as a number, which no written number is equal to.
+/// A constant as a number: in binary, without a size.
 pub(crate) fn as_number(alloc: Global, place: Place, value: ConstValue) -> Result<Expr, AllocError>
     ensures { IfOk result (λ e. e ≡ as_number place value) }
 {

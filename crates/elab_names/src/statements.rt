@@ -104,6 +104,21 @@ fn arm(
     })
 }
 
+/// A case item, of which both parts were put in.
+#[tactic(auto, unfolding(crate::specs::Answers::and_then))]
+fn arm_of(
+    alloc: Global,
+    place: Place,
+    labels: Result<Items<Expr>, ElabFault>,
+    body: Result<Stmt, ElabFault>,
+) -> Result<Arm<Boxed<Stmt>>, ElabFault>
+    ensures { (l : Or_fault (List Expr)) (b : Or_fault Stmt) → Answers (λ es. es) labels l → Answers (λ s. s) body b → Answers (λ a. a) result (and_then l (λ x. and_then b (λ y. Ok (record { place = place; labels = x; body = y })))) }
+{
+    let labels = labels?;
+    let body = body?;
+    Ok(arm(alloc, place, labels, body)?)
+}
+
 /// An assignment in a scope.
 #[tactic(auto, using(crate::proofs::StatementForms::forms), unfolding(crate::specs::Answers::and_then))]
 fn assign_in(
@@ -121,6 +136,40 @@ fn assign_in(
     Ok(Stmt::Assign(place, target, by, value))
 }
 
+/// `if`, of which what stands behind `else` comes last.
+#[tactic(auto, unfolding(crate::specs::Answers::and_then))]
+fn branch_else(
+    alloc: Global,
+    place: Place,
+    test: Expr,
+    yes: Stmt,
+    no: Result<Option<Boxed<Stmt>>, ElabFault>,
+) -> Result<Stmt, ElabFault>
+    ensures { (b : Or_fault (Option Stmt)) → Answers (λ o. o) no b → Answers (λ s. s) result (and_then b (λ y. Ok (stmt.If place test yes y))) }
+{
+    match no {
+        Ok(no) => Ok(branch(alloc, place, test, yes, no)?),
+        Err(fault) => Err(fault),
+    }
+}
+
+/// `if`, of which the first branch comes next.
+#[tactic(auto, unfolding(crate::specs::Answers::and_then))]
+fn branch_then(
+    alloc: Global,
+    place: Place,
+    test: Expr,
+    yes: Result<Stmt, ElabFault>,
+    no: Result<Option<Boxed<Stmt>>, ElabFault>,
+) -> Result<Stmt, ElabFault>
+    ensures { (a : Or_fault Stmt) (b : Or_fault (Option Stmt)) → Answers (λ s. s) yes a → Answers (λ o. o) no b → Answers (λ s. s) result (and_then a (λ x. and_then b (λ y. Ok (stmt.If place test x y)))) }
+{
+    match yes {
+        Ok(yes) => branch_else(alloc, place, test, yes, no),
+        Err(fault) => Err(fault),
+    }
+}
+
 /// `if`, of which all parts were put in.
 #[tactic(auto, unfolding(crate::specs::Answers::and_then))]
 fn branch_of(
@@ -132,10 +181,10 @@ fn branch_of(
 ) -> Result<Stmt, ElabFault>
     ensures { (t : Or_fault Expr) (a : Or_fault Stmt) (b : Or_fault (Option Stmt)) → Answers (λ e. e) test t → Answers (λ s. s) yes a → Answers (λ o. o) no b → Answers (λ s. s) result (and_then t (λ o. and_then a (λ x. and_then b (λ y. Ok (stmt.If place o x y))))) }
 {
-    let test = test?;
-    let yes = yes?;
-    let no = no?;
-    Ok(branch(alloc, place, test, yes, no)?)
+    match test {
+        Ok(test) => branch_then(alloc, place, test, yes, no),
+        Err(fault) => Err(fault),
+    }
 }
 
 /// `case`, of which all parts were put in.
@@ -244,21 +293,6 @@ fn statements_in(alloc: Global, inner: &[Stmt], scope: &Scope) -> Result<Items<S
     Ok(out)
 }
 
-/// A case item.
-#[cycle(statements)]
-#[tactic(auto, unfolding(crate::specs::Statements::arm_with, crate::specs::Answers::and_then))]
-fn arm_in(
-    alloc: Global,
-    item: &Arm<Boxed<Stmt>>,
-    scope: &Scope,
-) -> Result<Arm<Boxed<Stmt>>, ElabFault>
-    ensures { Answers (λ a. a) result (arm_with (frames_of scope.now) item.now) }
-{
-    let labels = all_put_in(alloc, item.labels.as_slice(), scope)?;
-    let body = statement_in(alloc, item.body.get(), scope)?;
-    Ok(arm(alloc, item.place, labels, body)?)
-}
-
 /// The items of a `case`.
 #[cycle(statements)]
 #[tactic(auto, using(crate::proofs::Lists::gathers))]
@@ -271,7 +305,9 @@ fn arms_in(
 {
     let mut out = Items::from_vec(Vec::with_capacity(alloc, items.len())?);
     for item in items {
-        match arm_in(alloc, item, scope) {
+        let labels = all_put_in(alloc, item.labels.as_slice(), scope);
+        let body = statement_in(alloc, item.body.get(), scope);
+        match arm_of(alloc, item.place, labels, body) {
             Ok(item) => match out.push(item) {
                 Ok(()) => {}
                 Err(_) => return Err(ElabFault::Memory),
