@@ -1,0 +1,6 @@
+pub mod Plans
+pub mod Scopes
+pub mod Choices
+pub mod Instances
+pub mod Items
+pub mod Tables
