@@ -98,11 +98,7 @@ fn assign(alloc: Global, d: &mut Draft, assignment: &Assignment) -> Result<(), E
 ///
 /// # Errors
 /// Of the first that has one: what `assigned` answers of its target, and `put_in` of its value.
-pub fn assign_all(
-    alloc: Global,
-    d: &mut Draft,
-    assignments: &[Assignment],
-) -> Result<(), ElabFault>
+pub fn assign_all(alloc: Global, d: &mut Draft, assignments: &[Assignment]) -> Result<(), ElabFault>
     ensures { Changes result (draft_of d.new) (threaded assigns (draft_of d.old) assignments.now) }
 {
     for assignment in assignments {

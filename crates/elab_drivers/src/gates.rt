@@ -32,11 +32,7 @@ fn outputs(kind: GateKind, terminals: usize) -> usize
 
 /// Outputs, behind what is there.
 #[tactic(auto, using(elab_names::proofs::Lists::gathers))]
-fn outputs_in(
-    alloc: Global,
-    terminals: &[Expr],
-    scope: &Scope,
-) -> Result<Items<Expr>, ElabFault>
+fn outputs_in(alloc: Global, terminals: &[Expr], scope: &Scope) -> Result<Items<Expr>, ElabFault>
     ensures { Answers (λ es. es) result (gathered (map (assigned (frames_of scope.now)) terminals.now)) }
 {
     let mut out = Items::from_vec(Vec::with_capacity(alloc, terminals.len())?);
@@ -54,11 +50,7 @@ fn outputs_in(
 
 /// Inputs.
 #[tactic(auto, using(elab_names::proofs::Lists::gathers))]
-fn inputs_in(
-    alloc: Global,
-    terminals: &[Expr],
-    scope: &Scope,
-) -> Result<Items<Expr>, ElabFault>
+fn inputs_in(alloc: Global, terminals: &[Expr], scope: &Scope) -> Result<Items<Expr>, ElabFault>
     ensures { Answers (λ es. es) result (gathered (map (put_in (frames_of scope.now)) terminals.now)) }
 {
     let mut out = Items::from_vec(Vec::with_capacity(alloc, terminals.len())?);

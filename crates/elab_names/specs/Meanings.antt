@@ -3,6 +3,7 @@
 --     found frames name                     the meaning in the first frame that has the name
 --     innermost frames, declared frames name m      the innermost frame, and all with a name declared in it
 --     declaring frames name m               the same, unless the innermost frame has the name
+--     left frames                           all but the innermost
 --     names_of frame, frames_of scope       the same of the program's tables
 use Rattle.std.specs.Prelude.{ℕ, if◌then◌else◌, List, [], ◌∷◌, map, reverse, Option, Some, None}
 use Rattle.std.specs.Option.{is_some, option_or}
@@ -45,6 +46,12 @@ declared (names ∷ outer) name m = with_name names name m ∷ outer
 -- a name that the innermost frame has stays what it is, and any other one is declared there
 unfoldable pub declaring : Frames → List ℕ → Meaning → Frames
 declaring frames name m = if is_some (innermost frames name) then frames else declared frames name m
+
+-- without the innermost frame, where another one is left
+unfoldable pub left : Frames → Frames
+left [] = []
+left (names ∷ []) = names ∷ []
+left (names ∷ next ∷ outer) = next ∷ outer
 
 -- what the names of a table mean
 abbrev pub names_of : Frame → Names

@@ -1,7 +1,7 @@
 //! Names in frames, one within the other.
 ghost use Rattle.std.specs.Prelude.{◌≡◌, ◌<◌, [], ◌∷◌, drop, length, not, IfOk, OnErr, OnOk};
 ghost use Rattle.std.specs.Option.{is_some, option_copied};
-ghost use Rattle.elab_names.specs.Meanings.{declared, declaring, found, frames_of, innermost, names_of_all, no_names};
+ghost use Rattle.elab_names.specs.Meanings.{declared, declaring, found, frames_of, innermost, left, names_of_all, no_names};
 
 use crate::frame::Frame;
 use crate::meaning::Meaning;
@@ -56,10 +56,10 @@ impl Scope {
         Ok(())
     }
 
-    /// Leaves the innermost frame, whose names are forgotten.
+    /// Leaves the innermost frame, whose names are forgotten; the last one stays.
+    #[tactic(auto, unfolding(crate::specs::Meanings::left))]
     pub fn leave(&mut self)
-        requires { 1 < length (frames_of self.old) }
-        ensures { frames_of self.new ≡ drop 1 (frames_of self.old) }
+        ensures { frames_of self.new ≡ left (frames_of self.old) }
     {
         if let Some(frame) = self.outer.pop() {
             self.inner = frame;

@@ -1,0 +1,4 @@
+pub mod NameForms
+pub mod BookLemmas
+pub mod FlagLemmas
+pub mod PairLemmas

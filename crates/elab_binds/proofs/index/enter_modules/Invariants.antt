@@ -1,0 +1,7 @@
+-- What is left decides.
+use Rattle.std.proofs.Common.{◌≡◌, drop}
+use Rattle.elab_binds.specs.Books.{book_of, modules_from}
+use Rattle.elab_binds.proofs.index.enter_modules.Given as goal
+
+abbrev pub invariant-loop-k : goal.invariant-loop-k
+invariant-loop-k l = modules_from (book_of l.index) l.k (drop l.k l.modules) ≡ modules_from (book_of l.fn.index) 0 l.modules
