@@ -59,7 +59,7 @@ fn always(alloc: Global, p: &Process, out: &mut String) -> Result<(), AllocError
     stmt(alloc, &p.body, 300, out)
 }
 
-fn drafted(alloc: Global, d: &Draft) -> Result<String, AllocError> {
+pub(crate) fn drafted(alloc: Global, d: &Draft) -> Result<String, AllocError> {
     let mut out = String::new(alloc);
     for x in &d.drivers {
         driver(alloc, x, &mut out)?;
@@ -101,7 +101,7 @@ fn items_shown(alloc: Global, d: &mut Draft, items: &[Item]) -> Result<String, A
     }
 }
 
-fn draft_of(alloc: Global, module: &Module) -> Result<Draft, Fail> {
+pub(crate) fn draft_of(alloc: Global, module: &Module) -> Result<Draft, Fail> {
     let drawing = scope_of(alloc, module)?;
     Ok(Draft {
         drawing,

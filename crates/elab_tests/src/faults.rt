@@ -43,6 +43,8 @@ pub(crate) fn stopped(alloc: Global, fault: ElabFault) -> Result<String, AllocEr
         ElabFault::NoPort(name, place) => named(alloc, "NoPort", &name, place),
         ElabFault::TwiceDeclared(name, place) => named(alloc, "TwiceDeclared", &name, place),
         ElabFault::Undeclared(name, place) => named(alloc, "Undeclared", &name, place),
+        ElabFault::NoModule(name, Some(place)) => named(alloc, "NoModule", &name, place),
+        ElabFault::TwoModules(name, place) => named(alloc, "TwoModules", &name, place),
         ElabFault::PortCount(place) => placed(alloc, "PortCount", place),
         ElabFault::NotAssignable(place) => placed(alloc, "NotAssignable", place),
         ElabFault::BadRange(place) => placed(alloc, "BadRange", place),

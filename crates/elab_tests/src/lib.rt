@@ -5,11 +5,15 @@
 #![tactic(auto)]
 
 #[cfg(test)]
+mod boxes;
+#[cfg(test)]
 mod decls;
 #[cfg(test)]
 mod drivers;
 #[cfg(test)]
 mod faults;
+#[cfg(test)]
+mod instances;
 #[cfg(test)]
 mod names;
 #[cfg(test)]

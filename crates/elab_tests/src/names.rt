@@ -3,7 +3,7 @@
 //! An expression stands on the second line from the twelfth column on, and the scope's prefix is `u.`.
 
 use crate::faults::stopped;
-use crate::reading::{first, is_wanted, modules};
+use crate::reading::{WANT, first, is_wanted, modules};
 use crate::shown::{constant as put_constant, value};
 use elab_names::{ElabFault, Scope, constant, constant_within, put_in};
 use elab_scopes::{Drawing, Given, open_scope};
@@ -72,6 +72,7 @@ pub(crate) fn scope_of(alloc: Global, module: &Module) -> Result<Drawing, Fail> 
         module.items.as_slice(),
     ) {
         Ok(_) => Ok(d),
+        Err(ElabFault::Memory) => Err(Fail::new(WANT)),
         Err(_) => Err(Fail::new("no scope")),
     }
 }

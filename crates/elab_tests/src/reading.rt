@@ -5,9 +5,12 @@ use rdc_outside::{Place, Seq, Text};
 use sqlite_items::Items;
 use std::alloc::{AllocError, Global};
 use std::test::Fail;
-use vlog_lex::lex;
-use vlog_parse::parse;
+use vlog_lex::{LexFault, Token, lex};
+use vlog_parse::{ParseFault, parse};
 use vlog_tree::Module;
+
+/// Why a test ends where an allocation fails.
+pub(crate) const WANT: &str = "want of memory";
 
 // A text whose lines and columns are counted from 1.
 fn text_of(alloc: Global, bytes: &[u8]) -> Result<Text, AllocError>
@@ -33,14 +36,23 @@ fn text_of(alloc: Global, bytes: &[u8]) -> Result<Text, AllocError>
     })
 }
 
+fn tokens_of(alloc: Global, text: &Text) -> Result<Vec<Token>, Fail>
+    requires { length text.now.places ≡ length text.now.bytes + 1 }
+{
+    match lex(alloc, text) {
+        Ok(tokens) => Ok(tokens),
+        Err(LexFault::Memory) => Err(Fail::new(WANT)),
+        Err(_) => Err(Fail::new("no tokens")),
+    }
+}
+
 // The modules of a text that has some.
 pub(crate) fn modules(alloc: Global, text: &str) -> Result<Items<Module>, Fail> {
     let text = text_of(alloc, text.as_bytes())?;
-    let Ok(tokens) = lex(alloc, &text) else {
-        return Err(Fail::new("no tokens"));
-    };
+    let tokens = tokens_of(alloc, &text)?;
     match parse(alloc, &text, tokens.as_slice()) {
         Ok(found) => Ok(found),
+        Err(ParseFault::Memory) => Err(Fail::new(WANT)),
         Err(_) => Err(Fail::new("no modules")),
     }
 }
@@ -56,7 +68,7 @@ pub(crate) fn first(found: &Items<Module>) -> Result<&Module, Fail> {
 // Whether an answer is the wanted one. Want of memory ends a test.
 pub(crate) fn is_wanted(got: &str, want: &str) -> Result<bool, Fail> {
     if got == "Memory" {
-        return Err(Fail::new("an answer is want of memory"));
+        return Err(Fail::new(WANT));
     }
     Ok(got == want)
 }

@@ -31,7 +31,7 @@ fn range(alloc: Global, r: Option<Bounds>, out: &mut String) -> Result<(), Alloc
     out.push_str(shown.as_str())
 }
 
-fn signal(alloc: Global, s: &Signal, out: &mut String) -> Result<(), AllocError> {
+pub(crate) fn signal(alloc: Global, s: &Signal, out: &mut String) -> Result<(), AllocError> {
     out.push_str("; ")?;
     bytes_shown(s.name.as_slice(), out)?;
     out.push_str(kind(s.kind))?;
