@@ -1,5 +1,6 @@
 //! Texts and their modules, for the tests.
 ghost use Rattle.std.specs.Prelude.{◌≡◌, ◌+◌, length, IfOk};
+ghost use Rattle.vlog_lex.specs.Tokens.{AreWithin};
 
 use rdc_outside::{Place, Seq, Text};
 use sqlite_items::Items;
@@ -38,6 +39,7 @@ fn text_of(alloc: Global, bytes: &[u8]) -> Result<Text, AllocError>
 
 fn tokens_of(alloc: Global, text: &Text) -> Result<Vec<Token>, Fail>
     requires { length text.now.places ≡ length text.now.bytes + 1 }
+    ensures { IfOk result (λ tokens. AreWithin (length text.now.bytes) tokens.items) }
 {
     match lex(alloc, text) {
         Ok(tokens) => Ok(tokens),
