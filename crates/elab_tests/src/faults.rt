@@ -28,6 +28,14 @@ pub(crate) fn refused(alloc: Global, fault: DeclFault) -> Result<String, AllocEr
     }
 }
 
+// No module of that name, where it stands if it does.
+fn absent(alloc: Global, name: &Seq<u8>, place: Option<Place>) -> Result<String, AllocError> {
+    match place {
+        Some(place) => named(alloc, "NoModule", name, place),
+        None => String::from_str(alloc, "NoModule"),
+    }
+}
+
 fn no_constant(alloc: Global, fault: ConstFault) -> Result<String, AllocError> {
     match fault {
         ConstFault::Memory => String::from_str(alloc, "Memory"),
@@ -43,7 +51,7 @@ pub(crate) fn stopped(alloc: Global, fault: ElabFault) -> Result<String, AllocEr
         ElabFault::NoPort(name, place) => named(alloc, "NoPort", &name, place),
         ElabFault::TwiceDeclared(name, place) => named(alloc, "TwiceDeclared", &name, place),
         ElabFault::Undeclared(name, place) => named(alloc, "Undeclared", &name, place),
-        ElabFault::NoModule(name, Some(place)) => named(alloc, "NoModule", &name, place),
+        ElabFault::NoModule(name, place) => absent(alloc, &name, place),
         ElabFault::TwoModules(name, place) => named(alloc, "TwoModules", &name, place),
         ElabFault::PortCount(place) => placed(alloc, "PortCount", place),
         ElabFault::NotAssignable(place) => placed(alloc, "NotAssignable", place),
