@@ -76,7 +76,11 @@ fn first_wrong(alloc: Global, rows: &[(&str, &str)]) -> Result<Option<String>, F
 
 #[test]
 fn names_stand_in_the_order_of_the_text(rt: HostRuntime) -> Result<(), Fail> {
-    let rows: [(&str, &str); 3] = [
+    let rows: [(&str, &str); 4] = [
+        (
+            "module m (input a, b, output reg signed [3:0] q, r, input c); endmodule",
+            "a in;b in;q out-reg reg signed;r out-reg reg signed;c in;",
+        ),
         (
             "module m #(parameter W = 4, parameter signed D = 2) (input clk, input wire [3:0] a, output signed b, output reg q); endmodule",
             "W thing;D thing;clk in;a in;b out signed;q out-reg reg;",

@@ -237,7 +237,11 @@ fn a_given_value_takes_the_place_of_the_own_one(rt: HostRuntime) -> Result<(), F
 
 #[test]
 fn signals_stand_in_the_order_of_the_text(rt: HostRuntime) -> Result<(), Fail> {
-    let rows: [(&str, &str); 4] = [
+    let rows: [(&str, &str); 5] = [
+        (
+            "module m (input a, b, output reg [3:0] q, r); endmodule",
+            " a=u.a in b=u.b in q=u.q r=u.r; u.a wire; u.b wire; u.q reg [3:0]; u.r reg [3:0]",
+        ),
         (
             "module m #(parameter W = 4) (input [W-1:0] a, output reg q); wire signed [0:7] b; integer i; reg r; endmodule",
             " W=32s4 a=u.a in q=u.q b=u.b i=u.i r=u.r; u.a wire [3:0]; u.q reg; u.b wire signed [0:7]; u.i integer signed [31:0]; u.r reg",
