@@ -8,10 +8,10 @@ use vlog_const::{Family, Shape};
 
 /// The width and the sign of an expression by itself, or of its context.
 #[derive(Clone, Copy)]
-pub(crate) struct Extent {
+pub struct Extent {
     /// The number of bits.
-    pub(crate) width: usize,
-    pub(crate) signed: bool,
+    pub width: usize,
+    pub signed: bool,
 }
 
 /// A width, where a word of that many bits fits memory.

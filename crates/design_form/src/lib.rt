@@ -21,15 +21,18 @@ mod parts;
 mod seen;
 mod selects;
 mod signal;
+mod sizes;
 mod start;
 mod tables;
 mod words;
 
 pub use design::Design;
 pub use evaluator::{eval, eval_within};
+pub use extent::Extent;
 pub use fault::{DesignFault, EvalFault};
 pub use laws::{
     values_agree_with_constants, values_are_monotone, values_have_widths, values_settle,
 };
 pub use parts::{BlackBox, BoxPort, Driver, DriverKind, GateUse, Parts, Process, Side, TopPort};
 pub use signal::{Bounds, Signal, SignalKind};
+pub use sizes::{operand_size, operand_sizes, size_of};
