@@ -1,0 +1,8 @@
+mod Rows
+mod ReadForms
+mod TargetForms
+mod IndexForms
+mod AssignedForms
+mod BodyForms
+mod FirstPlaces
+mod IndexLaws

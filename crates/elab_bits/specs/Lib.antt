@@ -1,0 +1,11 @@
+pub mod Touches
+pub mod Selects
+pub mod Reads
+pub mod Targets
+pub mod Bodies
+pub mod Processes
+pub mod Parts
+pub mod Orders
+pub mod Judgements
+pub mod Tables
+pub mod Laws

@@ -1,0 +1,5 @@
+mod AroundLemmas
+mod BodyForms
+mod ActForms
+mod TurnForms
+mod Depths

@@ -1,0 +1,7 @@
+-- What is left decides what all answer.
+use Rattle.std.proofs.Common.{◌≡◌, drop}
+use Rattle.elab_sound.specs.Sound.{all_checked, driver_checked}
+use Rattle.elab_sound.proofs.designs.drivers.Given as goal
+
+abbrev pub invariant-loop-one : goal.invariant-loop-one
+invariant-loop-one l = all_checked (driver_checked l.design) (drop l.one-index l.drivers) ≡ all_checked (driver_checked l.design) l.drivers

@@ -1,0 +1,7 @@
+-- What is left decides what all answer.
+use Rattle.std.proofs.Common.{◌≡◌, drop}
+use Rattle.elab_sound.specs.Sound.{all_checked, gate_checked}
+use Rattle.elab_sound.proofs.designs.gates.Given as goal
+
+abbrev pub invariant-loop-one : goal.invariant-loop-one
+invariant-loop-one l = all_checked (gate_checked l.design) (drop l.one-index l.gates) ≡ all_checked (gate_checked l.design) l.gates

@@ -1,0 +1,4 @@
+pub mod Sizes
+pub mod Hierarchy
+pub mod Tops
+pub mod Tables

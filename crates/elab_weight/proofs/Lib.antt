@@ -1,0 +1,11 @@
+mod Capped
+mod Flat
+mod Sums
+mod OnceLemmas
+mod CommonLemmas
+mod ReachLemmas
+mod WeightForms
+mod TargetForms
+mod AssignedForms
+mod ChoiceForms
+mod Endings

@@ -1,0 +1,9 @@
+pub mod Limits
+pub mod PartWeights
+pub mod GateParts
+pub mod Reaches
+pub mod TargetBits
+pub mod Choices
+pub mod Weights
+pub mod Laws
+pub mod Kept

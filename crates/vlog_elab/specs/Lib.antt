@@ -1,0 +1,5 @@
+pub mod Orders
+pub mod Bits
+pub mod Tallies
+pub mod Flat
+pub mod Tables
