@@ -1,5 +1,5 @@
 -- What a loop over rows has gathered, where each row is looked at through a function.
-use Rattle.std.proofs.Common.{◌≡◌, ◌⊎◌, ℕ, Bool, not, cond, nat_lt, Option, Some, None, ◌+◌, ◌<◌, ◌≤◌, List, [], ◌∷◌, ◌++◌, map, drop, length, get_or, Ok, Err, refl, sym, ap, subst, ◌∙◌}
+use Rattle.std.proofs.Common.{◌≡◌, ◌⊎◌, ℕ, Bool, not, cond, nat_lt, Some, None, ◌+◌, ◌<◌, ◌≤◌, List, [], ◌∷◌, ◌++◌, map, drop, length, get_or, Ok, Err, refl, sym, ap, subst, ◌∙◌}
 use Rattle.std.specs.List.{position, position_or_len}
 use Rattle.std.proofs.lemmas.List.{map-append, length-map}
 use Rattle.elab_names.specs.declared.fault.ElabFault.{ElabFault}

@@ -4,12 +4,11 @@
 --     widest s ls                      the width and the sign of a selector and all labels together
 --     any_equal c bits ls              whether an arm matches
 --     picked, chosen                   the first arm that matches, or the one without labels
-use Rattle.std.specs.Prelude.{ℕ, ◌==◌, not, Bool, List, [], ◌∷◌, length, map, Option, Ok, Err}
+use Rattle.std.specs.Prelude.{ℕ, ◌==◌, not, Bool, List, [], ◌∷◌, length, map, Option, Ok}
 use Rattle.std.specs.List.{list_any, position}
 use Rattle.std.specs.Option.{option_or}
 use Rattle.vlog_tree.specs.declared.expr.Expr.{Expr}
 use Rattle.vlog_const.specs.declared.shape.Shape.{Shape}
-use Rattle.vlog_const.specs.declared.answer.ConstValue.{ConstValue}
 use Rattle.vlog_const.specs.Names.{no_values}
 use Rattle.vlog_const.specs.Widths.{common}
 use Rattle.vlog_const.specs.Worths.{shape_of}

@@ -1,5 +1,5 @@
 -- What each form of item adds.
-use Rattle.std.proofs.Common.{◌≡◌, ℕ, Bool, if◌then◌else◌, List, [], ◌∷◌, map, Option, Some, None, Ok, refl, sym, ap, ◌∙◌}
+use Rattle.std.proofs.Common.{◌≡◌, ℕ, if◌then◌else◌, List, map, Option, Some, None, Ok, sym, ap, ◌∙◌}
 use Rattle.std.specs.Option.{option_map}
 use Rattle.rdc_outside.specs.declared.source.Place.{Place}
 use Rattle.vlog_tree.specs.declared.ident.Ident.{Ident}
@@ -20,8 +20,8 @@ use Rattle.vlog_tree.specs.declared.item.Instance.{Instance}
 use Rattle.vlog_tree.specs.declared.item.Block.{Block}
 use Rattle.vlog_tree.specs.declared.item.Item.{Item, Item-F, para-roll-Item}
 use Rattle.vlog_tree.specs.declared.item.Item.TheVariants as i
-use Rattle.elab_names.specs.Answers.{Or_fault, and_then}
-use Rattle.elab_scopes.specs.Threads.{threaded, chained}
+use Rattle.elab_names.specs.Answers.{and_then}
+use Rattle.elab_scopes.specs.Threads.{threaded}
 use Rattle.elab_drivers.specs.Drivers.{wired, assigns, processed, gated}
 use Rattle.elab_items.specs.Plans.{Plan, frames_in, on_draft}
 use Rattle.elab_choices.specs.Choices.{is_true, chosen}

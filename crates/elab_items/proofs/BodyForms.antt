@@ -1,5 +1,5 @@
 -- Items beside what they add.
-use Rattle.std.proofs.Common.{◌≡◌, ℕ, ◌<◌, length, get_or, slice_get, Result, subst, List, [], ◌∷◌, map, Option, Some, None, refl, sym, ap, ◌∙◌}
+use Rattle.std.proofs.Common.{◌≡◌, ℕ, ◌<◌, length, get_or, slice_get, Result, subst, List, [], ◌∷◌, map, Option, Some, refl, sym, ap, ◌∙◌}
 use Rattle.std.specs.Option.{option_map}
 use Rattle.std.proofs.lemmas.Option.{slice_get-map, slice_get-get_or}
 use mathlib.Core.Path.{fun_ext}
@@ -12,7 +12,7 @@ use Rattle.elab_scopes.specs.Tables.{Changes}
 use Rattle.elab_scopes.specs.Threads.{threaded, chained}
 use Rattle.elab_items.specs.Plans.{Plan}
 use Rattle.elab_items.specs.Instances.{Lib}
-use Rattle.elab_items.specs.Items.{Act, Body, acts_of, arm_at, arm_chosen, arm_of, blocked, items_of, bodied, item_act, items_act}
+use Rattle.elab_items.specs.Items.{Body, acts_of, arm_at, arm_chosen, arm_of, blocked, items_of, bodied, item_act, items_act}
 
 -- the items are those that stand there
 pub items_kept : (lib : Lib) (is : List Item) → items_of (bodied lib is) ≡ is

@@ -1,15 +1,15 @@
 -- The turns of a loop, by what the next one gives.
-use Rattle.std.proofs.Common.{◌≡◌, ◌⊎◌, ℕ, suc, ◌-◌, ◌<◌, Bool, List, Option, Some, None, Ok, Err, inl, inr, ◌≤◌, IfSome, refl, sym, ap, subst, ◌∙◌, arith}
+use Rattle.std.proofs.Common.{◌≡◌, ℕ, suc, List, Option, Some, None, Ok, Err, inl, inr, ◌≤◌, IfSome, sym, ap, subst, ◌∙◌}
 use Rattle.rdc_outside.specs.declared.source.Place.{Place}
 use Rattle.vlog_tree.specs.declared.ident.Ident.{Ident}
 use Rattle.vlog_tree.specs.declared.stmt.Loop.{Loop}
 use Rattle.vlog_const.specs.declared.answer.ConstValue.{ConstValue}
 use Rattle.elab_names.specs.declared.fault.ElabFault.{ElabFault}
-use Rattle.elab_names.specs.declared.fault.ElabFault.TheVariants.{Memory, GenerateLimit}
+use Rattle.elab_names.specs.declared.fault.ElabFault.TheVariants.{GenerateLimit}
 use Rattle.elab_names.specs.Answers.{Or_fault, and_then}
 use Rattle.elab_scopes.specs.Threads.{Stops}
 use Rattle.elab_items.specs.Plans.{Plan}
-use Rattle.elab_items.specs.Items.{Body, Turn, followed, follows, once, turns_from}
+use Rattle.elab_items.specs.Items.{Body, followed, follows, once, turns_from}
 
 turned : (n m : ℕ) (place : Place) (prefix : List ℕ) (h : Loop) (label : Ident) (body : Body) (v : ConstValue) (p : Plan) → n ≡ suc m
     → turns_from n place prefix h label body v p ≡ and_then (once place prefix h label body v p) (followed (turns_from m place prefix h label body))

@@ -15,9 +15,7 @@ use Rattle.design_form.specs.declared.parts.Side.TheVariants as side
 use Rattle.design_form.specs.declared.parts.Side.{Side}
 use Rattle.elab_decls.specs.Tables.{declared_in}
 use Rattle.elab_names.specs.Answers.{Or_fault, ◌>>=◌}
-use Rattle.elab_scopes.specs.Parameters.{Given}
 use Rattle.elab_scopes.specs.Openings.{taken}
-use Rattle.elab_drivers.specs.Drafts.{Draft}
 use Rattle.elab_binds.specs.declared.boxes.BoxPorts.{BoxPorts}
 use Rattle.elab_binds.specs.declared.boxes.PortShape.{PortShape}
 use Rattle.elab_binds.specs.declared.index.Found.{Found}

@@ -4,7 +4,7 @@
 --     blocked b prefix p                a block with its name, if it has one
 --     once .., turns_from n ..          a turn of a loop, and turns, of which n are left
 --     item_act lib i, items_act lib prefix is p      an item, and items
-use Rattle.std.specs.Prelude.{ℕ, zero, suc, ◌+◌, nat_le, Bool, true, false, if◌then◌else◌, List, [], ◌∷◌, map, Option, Some, None, Ok, Err, slice_get}
+use Rattle.std.specs.Prelude.{ℕ, zero, suc, ◌+◌, nat_le, Bool, true, false, if◌then◌else◌, List, ◌∷◌, map, Option, Some, None, Ok, Err, slice_get}
 use Rattle.std.specs.Str.{bytes_eq}
 use Rattle.rdc_outside.specs.declared.source.Place.{Place}
 use Rattle.vlog_tree.specs.declared.ident.Ident.{Ident}

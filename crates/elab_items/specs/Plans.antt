@@ -2,13 +2,11 @@
 --     Pending                        an instance that is still to be elaborated
 --     Plan                           all of it
 --     on_draft f p                   a step that changes the draft alone
---     size p, Weighed                how large the design is so far
-use Rattle.std.specs.Prelude.{ℕ, ◌+◌, nat_le, if◌then◌else◌, List, [], ◌∷◌, ◌++◌, length, Option, Ok, Err}
+--     with_draft, with_drawn, with_frames, with_around, with_turn      the same with another part
+use Rattle.std.specs.Prelude.{ℕ, ◌+◌, List, Ok}
 use Rattle.rdc_outside.specs.declared.source.Place.{Place}
 use Rattle.design_form.specs.declared.parts.BlackBox.{BlackBox}
-use Rattle.elab_decls.specs.declared.entry.Entry.{Entry}
-use Rattle.elab_names.specs.declared.fault.ElabFault.TheVariants.{Heavy}
-use Rattle.elab_names.specs.Answers.{Or_fault, ◌>>=◌, and_then}
+use Rattle.elab_names.specs.Answers.{Or_fault, ◌>>=◌}
 use Rattle.elab_names.specs.Meanings.{Frames}
 use Rattle.elab_scopes.specs.Parameters.{Given}
 use Rattle.elab_scopes.specs.Signals.{Drawn, Entries}

@@ -3,10 +3,9 @@
 --     labelled p i                   the name of a block, in the scope around it
 --     genvar around i                a name that is a genvar
 --     begun, ended                   into a scope, and out of it
-use Rattle.std.specs.Prelude.{ℕ, ◌-◌, Bool, true, false, if◌then◌else◌, List, [], ◌∷◌, ◌++◌, drop, Option, Some, None, Ok, Err, codes}
+use Rattle.std.specs.Prelude.{ℕ, Bool, true, false, if◌then◌else◌, List, [], ◌∷◌, ◌++◌, drop, Option, Some, None, Ok, Err, codes}
 use Rattle.std.specs.Option.{is_some, option_or}
 use Rattle.std.specs.Fmt.{decimal}
-use Rattle.rdc_outside.specs.declared.source.Place.{Place}
 use Rattle.vlog_tree.specs.declared.ident.Ident.{Ident}
 use Rattle.vlog_tree.specs.declared.item.Item.{Item}
 use Rattle.vlog_const.specs.declared.answer.ConstValue.{ConstValue}
@@ -16,12 +15,12 @@ use Rattle.elab_decls.specs.declared.entry.Entry.{Entry}
 use Rattle.elab_decls.specs.declared.entry.Form.{Form}
 use Rattle.elab_decls.specs.declared.entry.Form.TheVariants.{Genvar}
 use Rattle.elab_names.specs.declared.fault.ElabFault.TheVariants.{Undeclared, TwiceDeclared}
-use Rattle.elab_names.specs.declared.meaning.Meaning.TheVariants.{Constant, Other}
+use Rattle.elab_names.specs.declared.meaning.Meaning.TheVariants.{Other}
 use Rattle.elab_names.specs.Answers.{Or_fault, ◌>>=◌}
-use Rattle.elab_names.specs.Meanings.{Frames, innermost, declared, left}
+use Rattle.elab_names.specs.Meanings.{innermost, declared, left}
 use Rattle.elab_scopes.specs.Parameters.{none_given}
-use Rattle.elab_scopes.specs.Signals.{Entries, Drawn}
-use Rattle.elab_scopes.specs.Openings.{Opened, opened}
+use Rattle.elab_scopes.specs.Signals.{Entries}
+use Rattle.elab_scopes.specs.Openings.{opened}
 use Rattle.elab_items.specs.Plans.{Plan, frames_in, with_around, with_drawn, with_frames}
 
 -- a number with its sign, as it is printed

@@ -1,9 +1,10 @@
 //! The items of a module: generate constructs unrolled, drivers and processes, and the instances that are left.
 //!
-//! What each item adds is a definition by its form (`specs/Items.antt`); generate blocks are scopes (`specs/Scopes.antt`), and
-//! constants choose among them (`specs/Choices.antt`); an instance binds its ports and waits to be elaborated itself
+//! What each item adds is a definition by its form (`specs/Items.antt`), and `items` gives what it says, or its fault at its
+//! place. Generate blocks are scopes (`specs/Scopes.antt`); an instance binds its ports and waits to be elaborated itself
 //! (`specs/Instances.antt`).
-//! Meaning: stands on `elab_scopes`, `elab_drivers` and `elab_binds`. The elaboration of a design asks it for each module.
+//! Meaning: stands on `elab_choices` for what generate constructs choose, and on `elab_scopes`, `elab_drivers` and
+//! `elab_binds`. The elaboration of a design asks it for each module.
 #![tactic(auto)]
 
 mod instance;

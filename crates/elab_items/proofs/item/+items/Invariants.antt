@@ -1,7 +1,6 @@
 -- What is left decides what all give.
 use Rattle.std.proofs.Common.{◌≡◌, ◌≤◌, ◌+◌, ◌*◌, drop}
-use Rattle.elab_scopes.specs.Threads.{threaded}
-use Rattle.elab_items.specs.Items.{bodied, item_act, items_act, turns_from}
+use Rattle.elab_items.specs.Items.{bodied, items_act, turns_from}
 use Rattle.elab_items.specs.Tables.{lib_of, plan_of}
 use Rattle.elab_items.proofs.item.+items.Given as goal
 
