@@ -39,27 +39,27 @@ last ps lib t ports = and_then (grown_from lib t) (λ s. finished t.body.name.pl
 no_top : (lib : Lib) (name : List ℕ) (fault : ElabFault) → top_of lib name ≡ Err fault → Gives lib name (Err fault)
 unfolding flat and_then
 no_top lib name fault bad = record {
-    signals = [];
-    order = λ t ports s top _ _. not_both (IsInOrder s.plan.draft.drawn.signals []) t fault (top_of lib name) top bad;
-    is = ap (λ r. and_then r (step [] lib)) bad
+  signals = [];
+  order = λ t ports s top _ _. not_both (IsInOrder s.plan.draft.drawn.signals []) t fault (top_of lib name) top bad;
+  is = ap (λ r. and_then r (step [] lib)) bad;
 }
 
 -- a top whose ports have a fault
 no_ports : (lib : Lib) (name : List ℕ) (t : Top) (fault : ElabFault) → top_of lib name ≡ Ok t → top_ports t.body ≡ Err fault → Gives lib name (Err fault)
 unfolding flat and_then
 no_ports lib name t fault top bad = record {
-    signals = [];
-    order = λ u ports s other ok _. not_both (IsInOrder s.plan.draft.drawn.signals []) ports fault (top_ports t.body) (subst (λ (v : Top). top_ports v.body ≡ Ok ports) (one_value u t (top_of lib name) other top) ok) bad;
-    is = ap (λ r. and_then r (step [] lib)) top ∙ ap (λ r. and_then r (last [] lib t)) bad
+  signals = [];
+  order = λ u ports s other ok _. not_both (IsInOrder s.plan.draft.drawn.signals []) ports fault (top_ports t.body) (subst (λ (v : Top). top_ports v.body ≡ Ok ports) (one_value u t (top_of lib name) other top) ok) bad;
+  is = ap (λ r. and_then r (step [] lib)) top ∙ ap (λ r. and_then r (last [] lib t)) bad;
 }
 
 -- a hierarchy with a fault
 no_hierarchy : (lib : Lib) (name : List ℕ) (t : Top) (ports : List TopPort) (fault : ElabFault) → top_of lib name ≡ Ok t → top_ports t.body ≡ Ok ports → grown_from lib t ≡ Err fault → Gives lib name (Err fault)
 unfolding flat and_then
 no_hierarchy lib name t ports fault top ok bad = record {
-    signals = [];
-    order = λ u qs s other _ grown. not_both (IsInOrder s.plan.draft.drawn.signals []) s fault (grown_from lib t) (subst (λ (v : Top). grown_from lib v ≡ Ok s) (one_value u t (top_of lib name) other top) grown) bad;
-    is = ap (λ r. and_then r (step [] lib)) top ∙ (ap (λ r. and_then r (last [] lib t)) ok ∙ ap (λ r. and_then r (λ s. finished t.body.name.place [] ports s)) bad)
+  signals = [];
+  order = λ u qs s other _ grown. not_both (IsInOrder s.plan.draft.drawn.signals []) s fault (grown_from lib t) (subst (λ (v : Top). grown_from lib v ≡ Ok s) (one_value u t (top_of lib name) other top) grown) bad;
+  is = ap (λ r. and_then r (step [] lib)) top ∙ (ap (λ r. and_then r (last [] lib t)) ok ∙ ap (λ r. and_then r (λ s. finished t.body.name.place [] ports s)) bad);
 }
 
 -- the same parts and the same size are finished alike
@@ -73,9 +73,9 @@ whole : (lib : Lib) (name : List ℕ) (t : Top) (ports : List TopPort) (s v : St
     → IsInOrder s.plan.draft.drawn.signals ps → laid ps ports v.plan ≡ laid ps ports s.plan → v.size ≡ s.size → finished t.body.name.place ps ports v ≡ answer → Gives lib name answer
 unfolding flat and_then
 whole lib name t ports s v ps answer top ok grown order parts size is = record {
-    signals = ps;
-    order = λ u qs w other _ also. subst (λ (x : State). IsInOrder x.plan.draft.drawn.signals ps) (one_value s w (grown_from lib t) grown (subst (λ (y : Top). grown_from lib y ≡ Ok w) (one_value u t (top_of lib name) other top) also)) order;
-    is = ap (λ r. and_then r (step ps lib)) top ∙ (ap (λ r. and_then r (last ps lib t)) ok ∙ (ap (λ r. and_then r (λ x. finished t.body.name.place ps ports x)) grown ∙ (sym (same t.body.name.place ps ports s v parts size) ∙ is)))
+  signals = ps;
+  order = λ u qs w other _ also. subst (λ (x : State). IsInOrder x.plan.draft.drawn.signals ps) (one_value s w (grown_from lib t) grown (subst (λ (y : Top). grown_from lib y ≡ Ok w) (one_value u t (top_of lib name) other top) also)) order;
+  is = ap (λ r. and_then r (step ps lib)) top ∙ (ap (λ r. and_then r (last ps lib t)) ok ∙ (ap (λ r. and_then r (λ x. finished t.body.name.place ps ports x)) grown ∙ (sym (same t.body.name.place ps ports s v parts size) ∙ is)));
 }
 
 -- ---- what calls answer
