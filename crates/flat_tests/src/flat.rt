@@ -1,6 +1,6 @@
 //! A hierarchy of three levels: parameters widen a bus, two generate loops nest, and a generate `case` picks one of three.
 
-use crate::shown::{bits_below, design_of, drivers_of};
+use crate::shown::{bits_below, design_of, drivers_of, wrong};
 use std::test::Fail;
 
 const TEXT: &str = "module unit #(parameter KIND = 0) (input d, output q);\n\
@@ -88,5 +88,56 @@ fn bits_have_their_drivers(rt: HostRuntime) -> Result<(), Fail> {
         let got = drivers_of(rt.alloc(), &design, target)?;
         assert!(rt; got.as_str() == want, "{target}: {got}");
     }
+    Ok(())
+}
+
+const HEAD: &str = "module m (input n); parameter P = 1; genvar i, j;\n";
+
+const TAIL: &str =
+    "\nendmodule module leaf #(parameter W = 1, [1:0] C = 0) (); localparam L = W + 1; wire [L:C] x; endmodule";
+
+#[test]
+fn what_is_elaborated_has_names(rt: HostRuntime) -> Result<(), Fail> {
+    let rows: [(&str, &str); 14] = [
+        (
+            "for (i = 1; i >= -1; i = i - 1) begin : g wire x; end",
+            " g[-1].x g[0].x g[1].x n",
+        ),
+        (
+            "for (i = 0; i < 2; i = i + 1) begin : g for (i = 0; i < 2; i = i + 1) begin : h wire x; end end",
+            " g[0].h[0].x g[0].h[1].x g[1].h[0].x g[1].h[1].x n",
+        ),
+        (
+            "for (i = 0; i < 2; i = i + 1) begin : g wire [i:0] x; end",
+            " g[0].x g[1].x[0] g[1].x[1] n",
+        ),
+        (
+            "for (i = 0; i < 1; i = i + 1) begin : g localparam Q = i + 2; wire [Q:Q] x; end",
+            " g[0].x[2] n",
+        ),
+        ("for (i = P; i < 1; i = i + 1) begin : g wire x; end", " n"),
+        (
+            "if (P) begin : g wire x; end else begin : g wire z; end",
+            " g.x n",
+        ),
+        (
+            "if (!P) nothing u (); else if (P == 1) begin wire x; end",
+            " n x",
+        ),
+        ("case (P) default: wire x; 0, 1: wire z; endcase", " n z"),
+        (
+            "case (P + 1) 0, 1: wire z; default begin : d wire x; end 2 + 1: ; endcase",
+            " d.x n",
+        ),
+        ("case (P + 1) 0, 1: wire z; endcase", " n"),
+        (
+            "generate if (1) begin : \\a+b wire \\c.d ; end endgenerate",
+            " a+b.c.d n",
+        ),
+        ("leaf u ();", " n u.x[0] u.x[1] u.x[2]"),
+        ("leaf #(P - 1, 3) u ();", " n u.x[1] u.x[2] u.x[3]"),
+        ("leaf #(.C(7 - 1), .W()) u ();", " n u.x[2]"),
+    ];
+    assert_eq!(rt; wrong(rt.alloc(), HEAD, TAIL, &rows)?, None);
     Ok(())
 }

@@ -6,6 +6,9 @@ use std::test::Fail;
 const HEAD: &str =
     "module m (input n, output y); parameter P = 1; wire [3:0] b; wire [0:3] u; wire [7:4] h; reg r; reg [3:0] s;\n";
 
+const CONSTANTS_HEAD: &str =
+    "module m (input n, output y); parameter P = 1; reg r; wire [199:0] v; integer i;\n";
+
 const TAIL: &str = "\nendmodule";
 
 #[test]
@@ -115,5 +118,33 @@ fn a_range_and_a_constant_have_values(rt: HostRuntime) -> Result<(), Fail> {
         ("if (n) wire v;", "NotConstant 2:5"),
     ];
     assert_eq!(rt; wrong(rt.alloc(), HEAD, TAIL, &rows)?, None);
+    Ok(())
+}
+
+#[test]
+fn a_value_is_asked_of_constants_alone(rt: HostRuntime) -> Result<(), Fail> {
+    let rows: [(&str, &str); 11] = [
+        ("assign y = n / 2;", "NotConstant 2:12"),
+        ("assign y = 2 ** n;", "NotConstant 2:17"),
+        ("assign y = {n{n}};", "NotConstant 2:13"),
+        ("assign y = 7 % (P - 1);", "ZeroDivisor 2:16"),
+        ("assign v = 4 / 2;", "TooWide 2:12"),
+        ("assign v[n +: 2] = 0;", "NotConstant 2:10"),
+        ("assign v[7 +: n] = 0;", "NotConstant 2:15"),
+        ("always @* r = v[7:n];", "NotConstant 2:19"),
+        (
+            "always @* for (i = 0; i < n; i = i + 1) r = 0;",
+            "NotConstant 2:27",
+        ),
+        (
+            "always @* for (i = n; i < 2; i = i + 1) r = 0;",
+            "NotConstant 2:20",
+        ),
+        (
+            "always @* for (i = 0; i < 2; i = i + 1) i = 0;",
+            "NotConstant 2:23",
+        ),
+    ];
+    assert_eq!(rt; wrong(rt.alloc(), CONSTANTS_HEAD, TAIL, &rows)?, None);
     Ok(())
 }
