@@ -56,10 +56,9 @@ fn instances_nest_255_deep(rt: HostRuntime) -> Result<(), Fail> {
     Ok(())
 }
 
-const LOOPS: &str = "module m; genvar i, j; wire w;\n";
+const LOOPS: &str = "module m; genvar i; wire w;\n";
 
-const LOOPS_END: &str =
-    "\nendmodule module turns; genvar j; for (j = 0; j < 256; j = j + 1) begin : h end endmodule";
+const END: &str = "\nendmodule";
 
 #[test]
 fn generate_loops_turn_less_than_65536_times(rt: HostRuntime) -> Result<(), Fail> {
@@ -70,24 +69,7 @@ fn generate_loops_turn_less_than_65536_times(rt: HostRuntime) -> Result<(), Fail
             "GenerateLimit 2:1",
         ),
     ];
-    assert_eq!(rt; wrong(rt.alloc(), LOOPS, LOOPS_END, &rows)?, None);
-    Ok(())
-}
-
-// 255 * (1 + 256) = 65,535.
-#[test]
-fn turns_of_all_loops_count_together(rt: HostRuntime) -> Result<(), Fail> {
-    let rows: [(&str, &str); 2] = [
-        (
-            "for (i = 0; i < 255; i = i + 1) begin : g turns t (); end",
-            "1",
-        ),
-        (
-            "for (i = 0; i < 255; i = i + 1) begin : g for (j = 0; j < 256; j = j + 1) begin : h end end turns u ();",
-            "GenerateLimit 3:35",
-        ),
-    ];
-    assert_eq!(rt; wrong(rt.alloc(), LOOPS, LOOPS_END, &rows)?, None);
+    assert_eq!(rt; wrong(rt.alloc(), LOOPS, END, &rows)?, None);
     Ok(())
 }
 
@@ -95,8 +77,6 @@ fn turns_of_all_loops_count_together(rt: HostRuntime) -> Result<(), Fail> {
 // 1,048,575 are 4,202 bits or instances.
 const PRODUCT: &str =
     "module leaf; endmodule module wide; wire [1023:0] w; endmodule\nmodule m (input [360:0] a, b, output [360:0] y);";
-
-const END: &str = "\nendmodule";
 
 #[test]
 fn a_weight_is_less_than_1048576(rt: HostRuntime) -> Result<(), Fail> {
