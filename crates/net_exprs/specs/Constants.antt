@@ -1,7 +1,8 @@
 -- Constants in a net.
 --   constants w             a node for each bit of a settled word
---   value_or e a            an expression that has a value in its context as that value, else as it is built
-use Rattle.std.specs.Prelude.{ℕ, Bool, true, false, List, [], ◌∷◌, Ok, Err}
+--   value_or r b            what is built where there is no value, else the value's bits
+--   IsValue v r             an answer that is a value, or says that there is none
+use Rattle.std.specs.Prelude.{◌≡◌, ℕ, Bool, true, false, List, [], ◌∷◌, Option, Some, None, Ok, Err, IsErr}
 use Rattle.rdc_tern.specs.declared.value.Tern.{Tern}
 use Rattle.rdc_tern.specs.declared.value.Tern.TheVariants.{Zero, One, Unsettled}
 use Rattle.net_view.specs.declared.gate.Gate.TheVariants.{Const}
@@ -28,3 +29,8 @@ constants (t ∷ w) = do
 abbrev pub value_or : Or_fault ConstValue → Build (List ℕ) → Build (List ℕ)
 value_or (Ok v) built = constants (bits v.width v.bits)
 value_or (Err fault) built = built
+
+-- an answer that is a value, or says that there is none
+abbrev pub IsValue : Option ConstValue → Or_fault ConstValue → Type 0
+IsValue (Some v) r = r ≡ Ok v
+IsValue None r = IsErr r

@@ -5,3 +5,6 @@ pub mod Operators
 pub mod Selects
 pub mod Lowered
 pub mod Laws
+pub mod Names
+pub mod Alike
+pub mod Views

@@ -28,36 +28,54 @@ not_after b = b >>= (λ n. put (Not n))
 unfoldable pub one_bit : Shape → Build ℕ → Build (List ℕ)
 one_bit c b = b >>= (λ n. extended c (n ∷ []))
 
+-- `! & ~& | ~| ^ ~^` over all bits
+unfoldable pub reduced : Unary → List ℕ → Build ℕ
+reduced unary.Plus a = put (Const false)
+reduced unary.Minus a = put (Const false)
+reduced unary.Invert a = put (Const false)
+reduced unary.Not a = not_after (any a)
+reduced unary.ReduceAnd a = all a
+reduced unary.ReduceNand a = not_after (all a)
+reduced unary.ReduceOr a = any a
+reduced unary.ReduceNor a = not_after (any a)
+reduced unary.ReduceXor a = parity a
+reduced unary.ReduceXnor a = not_after (parity a)
+
 -- an operator before its operand
 unfoldable pub before : Unary → Shape → List ℕ → Build (List ℕ)
 before unary.Plus c a = return a
 before unary.Minus c a = neg a
 before unary.Invert c a = inverted a
-before unary.Not c a = one_bit c (not_after (any a))
-before unary.ReduceAnd c a = one_bit c (all a)
-before unary.ReduceNand c a = one_bit c (not_after (all a))
-before unary.ReduceOr c a = one_bit c (any a)
-before unary.ReduceNor c a = one_bit c (not_after (any a))
-before unary.ReduceXor c a = one_bit c (parity a)
-before unary.ReduceXnor c a = one_bit c (not_after (parity a))
+before op c a = one_bit c (reduced op a)
 
 -- a < b
 unfoldable pub less : Bool → List ℕ → List ℕ → Build ℕ
 less true a b = lt_signed a b
 less false a b = lt a b
 
--- `&&` and `||`, over the OR of all bits of each operand
-unfoldable pub both : List ℕ → List ℕ → Build ℕ
-both a b = do
-  x ← any a
-  y ← any b
-  put (And x y)
+-- comparisons
+unfoldable pub compared : Binary → Bool → List ℕ → List ℕ → Build ℕ
+compared binary.Less signed a b = less signed a b
+compared binary.AtMost signed a b = not_after (less signed b a)
+compared binary.Greater signed a b = less signed b a
+compared binary.AtLeast signed a b = not_after (less signed a b)
+compared binary.Equal signed a b = eq a b
+compared binary.CaseEqual signed a b = eq a b
+compared binary.NotEqual signed a b = not_after (eq a b)
+compared binary.CaseNotEqual signed a b = not_after (eq a b)
+compared _ signed a b = put (Const false)
 
-unfoldable pub either : List ℕ → List ℕ → Build ℕ
-either a b = do
+-- `&&` and `||` of two bits
+abbrev pub logical_gate : Binary → ℕ → ℕ → Build ℕ
+logical_gate binary.LogicalAnd x y = put (And x y)
+logical_gate _ x y = put (Or x y)
+
+-- the same over the OR of all bits of each operand
+unfoldable pub logical : Binary → List ℕ → List ℕ → Build ℕ
+logical op a b = do
   x ← any a
   y ← any b
-  put (Or x y)
+  logical_gate op x y
 
 -- down, filled with the top bit where there is one
 unfoldable pub filled : List ℕ → List ℕ → Build (List ℕ)
@@ -81,17 +99,17 @@ between binary.ShiftLeft signed c a b = shl a b
 between binary.ShiftRight signed c a b = shr a b
 between binary.ArithmeticShiftLeft signed c a b = shl a b
 between binary.ArithmeticShiftRight signed c a b = right c.signed a b
-between binary.Less signed c a b = one_bit c (less signed a b)
-between binary.AtMost signed c a b = one_bit c (not_after (less signed b a))
-between binary.Greater signed c a b = one_bit c (less signed b a)
-between binary.AtLeast signed c a b = one_bit c (not_after (less signed a b))
-between binary.Equal signed c a b = one_bit c (eq a b)
-between binary.NotEqual signed c a b = one_bit c (not_after (eq a b))
-between binary.CaseEqual signed c a b = one_bit c (eq a b)
-between binary.CaseNotEqual signed c a b = one_bit c (not_after (eq a b))
+between binary.Less signed c a b = one_bit c (compared binary.Less signed a b)
+between binary.AtMost signed c a b = one_bit c (compared binary.AtMost signed a b)
+between binary.Greater signed c a b = one_bit c (compared binary.Greater signed a b)
+between binary.AtLeast signed c a b = one_bit c (compared binary.AtLeast signed a b)
+between binary.Equal signed c a b = one_bit c (compared binary.Equal signed a b)
+between binary.NotEqual signed c a b = one_bit c (compared binary.NotEqual signed a b)
+between binary.CaseEqual signed c a b = one_bit c (compared binary.CaseEqual signed a b)
+between binary.CaseNotEqual signed c a b = one_bit c (compared binary.CaseNotEqual signed a b)
 between binary.And signed c a b = each op.And a b
 between binary.Xor signed c a b = each op.Xor a b
 between binary.Xnor signed c a b = each op.Xnor a b
 between binary.Or signed c a b = each op.Or a b
-between binary.LogicalAnd signed c a b = one_bit c (both a b)
-between binary.LogicalOr signed c a b = one_bit c (either a b)
+between binary.LogicalAnd signed c a b = one_bit c (logical binary.LogicalAnd a b)
+between binary.LogicalOr signed c a b = one_bit c (logical binary.LogicalOr a b)

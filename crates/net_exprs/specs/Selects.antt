@@ -9,9 +9,9 @@
 use Rattle.std.specs.Prelude.{ℕ, zero, suc, ◌+◌, ◌-◌, Bool, true, false, nat_le, if◌then◌else◌, List, [], ◌∷◌, ◌++◌, Option, Some, None, slice_get}
 use Rattle.vlog_tree.specs.declared.expr.Part.{Part}
 use Rattle.vlog_const.specs.declared.shape.Shape.{Shape}
+use Rattle.rdc_tern.specs.declared.value.Tern.{Tern}
 use Rattle.vlog_const.specs.declared.whole.Whole.{Whole}
 use Rattle.design_form.specs.declared.signal.Bounds.{Bounds}
-use Rattle.design_form.specs.declared.start.Start.{Start}
 use Rattle.design_form.specs.Signals.{is_down, width_of}
 use Rattle.design_form.specs.Bits.{start_word, can_be}
 use Rattle.design_form.specs.Selects.{part_width, starts, start_of}
@@ -53,21 +53,22 @@ part v i j = part_from v.range v.nodes j 0 (part_width v.range i j)
 
 -- ---- [e], [e +: n], [e -: n]
 
--- whether an index is a start, which is as wide
-unfoldable pub equals : List ℕ → ℕ → Start → Build ℕ
-equals e w start = do
-  number ← constants (start_word w start)
+-- whether an index is a number
+unfoldable pub equals : List ℕ → List Tern → Build ℕ
+equals e w = do
+  number ← constants w
   eq e number
 
--- whether an index of shape s is the start number i; nothing where it can't be
-unfoldable pub hit_if : Bool → List ℕ → ℕ → Start → Build (Option ℕ)
-hit_if true e w start = do
-  n ← equals e w start
+-- whether an index is a number that it can be; nothing where it can't be
+unfoldable pub hit_if : Bool → List ℕ → List Tern → Build (Option ℕ)
+hit_if true e w = do
+  n ← equals e w
   return (Some n)
-hit_if false e w start = return None
+hit_if false e w = return None
 
+-- whether an index of shape s is the start number i
 abbrev pub hit : Part → Bounds → ℕ → Shape → List ℕ → ℕ → Build (Option ℕ)
-hit part r n s e i = hit_if (can_be s (start_of part r n i)) e s.width (start_of part r n i)
+hit part r n s e i = hit_if (can_be s (start_of part r n i)) e (start_word s.width (start_of part r n i))
 
 -- k of these from the start number i up
 unfoldable pub hits_from : Part → Bounds → ℕ → Shape → List ℕ → ℕ → ℕ → Build (List (Option ℕ))
