@@ -1,7 +1,8 @@
 //! Expressions lowered to gates.
 //!
-//! `lower` builds exactly the gates that `specs/Lowered.antt` says, form by form, and answers their nodes, least significant
-//! bit first. What they are worth in every net that begins with them is said in `specs/Laws.antt`.
+//! `specs/Lowered.antt` says, form by form, which gates an expression is, and `specs/Laws.antt` what they are to be worth.
+//! Where it stands: `lower` is a stub that answers want of memory, and the laws are stated and not proved. What is written
+//! are the single forms: constants, extensions, operators, names, and selects by constants. The README has the list.
 //! The net: stands on `net_words` for the gates of operations, and on `design_form` for what expressions are worth.
 #![tactic(auto)]
 
