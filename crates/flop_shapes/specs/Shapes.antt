@@ -33,7 +33,7 @@ abbrev pub Choice : Type 0
 Choice = Expr × Stmt × Stmt
 
 unfoldable pub choice_in : Stmt-F Stmt → Option Choice
-choice_in (Stmt-F.If place test yes (Some no)) = Some (test, yes, no)
+choice_in (Stmt-F.If place test then_part (Some else_part)) = Some (test, then_part, else_part)
 choice_in s = None
 
 -- if (test) yes else no
@@ -45,7 +45,7 @@ only_choice (s ∷ []) = choice_of s
 only_choice ss = None
 
 unfoldable pub chosen_in : Stmt-F Stmt → Option Choice
-chosen_in (Stmt-F.If place test yes (Some no)) = Some (test, yes, no)
+chosen_in (Stmt-F.If place test then_part (Some else_part)) = Some (test, then_part, else_part)
 chosen_in (Stmt-F.Block place label ss) = only_choice ss
 chosen_in s = None
 
@@ -83,15 +83,15 @@ are_one a b = are_one_in (event_bit a) (event_bit b)
 
 -- two events and a test: the tested one is the reset, the other one the clock
 unfoldable pub tested_form : Parts → Event → Event → Test → Stmt → Stmt → Option Form
-tested_form d a b t yes no =
+tested_form d a b t then_part else_part =
     if are_one a b then None
-    else (if is_tested d a t then Some (Reset b a (is_rising a.edge) yes no)
-    else (if is_tested d b t then Some (Reset a b (is_rising b.edge) yes no)
+    else (if is_tested d a t then Some (Reset b a (is_rising a.edge) then_part else_part)
+    else (if is_tested d b t then Some (Reset a b (is_rising b.edge) then_part else_part)
     else None))
 
 unfoldable pub with_test : Parts → Event → Event → Option Test → Stmt → Stmt → Option Form
-with_test d a b None yes no = None
-with_test d a b (Some t) yes no = tested_form d a b t yes no
+with_test d a b None then_part else_part = None
+with_test d a b (Some t) then_part else_part = tested_form d a b t then_part else_part
 
 unfoldable pub with_choice : Parts → Event → Event → Option Choice → Option Form
 with_choice d a b None = None

@@ -101,7 +101,7 @@ fn same_index(a: Option<Whole>, b: Option<Whole>) -> bool
 /// Whether two bits have the same name and the same index, or none.
 #[tactic(auto, unfolding(crate::specs::Tests::same_bit))]
 pub(crate) fn same_bit(a: Reference<'_>, b: Reference<'_>) -> bool
-    ensures { result ≡ same_bit (a_bit a) (a_bit b) }
+    ensures { result ≡ same_bit (a_bit a.entry) (a_bit b.entry) }
 {
     a.name == b.name && same_index(a.index, b.index)
 }
@@ -119,7 +119,7 @@ fn is_scalar(design: &Design, name: &[u8]) -> bool
 /// A bit of a signal, or a signal that is one bit.
 #[tactic(auto, unfolding(crate::specs::Tests::is_one_bit, crate::specs::Tests::is_one_in))]
 pub(crate) fn is_one_bit(design: &Design, bit: Reference<'_>) -> bool
-    ensures { result ≡ is_one_bit design.now (a_bit bit) }
+    ensures { result ≡ is_one_bit design.now (a_bit bit.entry) }
 {
     match bit.index {
         None => is_scalar(design, bit.name),

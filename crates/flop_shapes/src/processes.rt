@@ -68,7 +68,7 @@ fn is_tested(
     tested: Reference<'_>,
     high: bool,
 ) -> Result<bool, AllocError>
-    ensures { IfOk result (λ r. r ≡ is_tested design.now event.now (a_bit tested, high)) }
+    ensures { IfOk result (λ r. r ≡ is_tested design.now event.now (a_bit tested.entry, high)) }
 {
     match event_bit(alloc, event)? {
         Some(bit) => Ok((same_bit(tested, bit) && same_sign(high, is_rising(event.edge)))
@@ -118,7 +118,7 @@ fn tested_form<'a>(
     tested: (Reference<'_>, bool),
     sides: (&'a Stmt, &'a Stmt),
 ) -> Result<Option<ProcessShape<'a>>, AllocError>
-    ensures { IfOk result (λ r. option_map a_form r ≡ tested_form design.now events.0.now events.1.now (a_bit tested.0, tested.1) sides.0.now sides.1.now) }
+    ensures { IfOk result (λ r. option_map a_form r ≡ tested_form design.now events.entry.0.now events.entry.1.now (a_bit tested.entry.0, tested.entry.1) sides.entry.0.now sides.entry.1.now) }
 {
     let (first, second) = events;
     let (bit, high) = tested;

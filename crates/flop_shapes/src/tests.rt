@@ -71,7 +71,7 @@ fn level(n: &Number) -> Option<bool>
 /// The level of a number that may be absent.
 #[tactic(auto, unfolding(crate::specs::Tests::level_in))]
 fn level_in(n: Option<&Number>) -> Option<bool>
-    ensures { result ≡ level_in (option_copied n) }
+    ensures { result ≡ level_in (option_copied n.entry) }
 {
     match n {
         Some(n) => level(n),
@@ -82,7 +82,7 @@ fn level_in(n: Option<&Number>) -> Option<bool>
 /// A bit and a level, where both are there.
 #[tactic(auto, unfolding(crate::specs::Tests::at_level))]
 fn at_level(bit: Option<Reference<'_>>, level: Option<bool>) -> Option<(Reference<'_>, bool)>
-    ensures { option_map (λ t. (a_bit t.0, t.1)) result ≡ at_level (option_map a_bit bit) level }
+    ensures { option_map (λ t. (a_bit t.0, t.1)) result ≡ at_level (option_map a_bit bit.entry) level }
 {
     match (bit, level) {
         (Some(bit), Some(level)) => Some((bit, level)),
@@ -94,7 +94,7 @@ fn at_level(bit: Option<Reference<'_>>, level: Option<bool>) -> Option<(Referenc
 /// `!` and `~` before a bit.
 #[tactic(auto, unfolding(crate::specs::Tests::inverted))]
 fn inverted(op: Unary, bit: Option<Reference<'_>>) -> Option<(Reference<'_>, bool)>
-    ensures { option_map (λ t. (a_bit t.0, t.1)) result ≡ inverted op (option_map a_bit bit) }
+    ensures { option_map (λ t. (a_bit t.0, t.1)) result ≡ inverted op (option_map a_bit bit.entry) }
 {
     match op {
         Unary::Not => at_level(bit, Some(false)),
@@ -110,7 +110,7 @@ fn compared<'a>(
     bit: Option<Reference<'a>>,
     number: Option<&Number>,
 ) -> Option<(Reference<'a>, bool)>
-    ensures { option_map (λ t. (a_bit t.0, t.1)) result ≡ compared op (option_map a_bit bit) (option_copied number) }
+    ensures { option_map (λ t. (a_bit t.0, t.1)) result ≡ compared op (option_map a_bit bit.entry) (option_copied number.entry) }
 {
     match op {
         Binary::Equal => at_level(bit, level_in(number)),
