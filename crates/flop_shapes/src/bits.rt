@@ -66,10 +66,7 @@ pub(crate) fn bit<'a>(alloc: Global, e: &'a Expr) -> Result<Option<Reference<'a>
 
 /// The bit of an event.
 #[tactic(auto, unfolding(crate::specs::Tests::event_bit, crate::specs::Tests::named_at))]
-pub(crate) fn event_bit(
-    alloc: Global,
-    event: &Event,
-) -> Result<Option<Reference<'_>>, AllocError>
+pub(crate) fn event_bit(alloc: Global, event: &Event) -> Result<Option<Reference<'_>>, AllocError>
     ensures { IfOk result (λ r. option_map a_bit r ≡ event_bit event.now) }
 {
     let name = event.name.name.as_slice();

@@ -8,7 +8,10 @@ pub enum ProcessShape<'a> {
     /// It follows what it reads.
     Combinational,
     /// It follows one edge.
-    Clocked { clock: &'a Event, body: &'a Stmt },
+    Clocked {
+        clock: &'a Event,
+        body: &'a Stmt,
+    },
     /// It follows the edge of a clock, and that of a reset.
     Reset {
         clock: &'a Event,

@@ -71,8 +71,10 @@ fn is_tested(
     ensures { IfOk result (λ r. r ≡ is_tested design.now event.now (a_bit tested.entry, high)) }
 {
     match event_bit(alloc, event)? {
-        Some(bit) => Ok((same_bit(tested, bit) && same_sign(high, is_rising(event.edge)))
-            && is_one_bit(design, bit)),
+        Some(bit) => Ok(
+            (same_bit(tested, bit) && same_sign(high, is_rising(event.edge)))
+                && is_one_bit(design, bit),
+        ),
         None => Ok(false),
     }
 }
