@@ -25,7 +25,7 @@ use Rattle.proc_loops.specs.declared.turn.Turn.TheVariants.{Ended, Full, Cut, Ma
 use Rattle.proc_loops.specs.declared.turn.Unrolled.{Unrolled}
 use Rattle.proc_loops.specs.Faults.{Or_fault, and_then, constant}
 use Rattle.proc_loops.specs.Headers.{unknown}
-use Rattle.proc_loops.specs.Turns.{Run, most_turns, is_full, one_more, ended, stepped, cut, turn, after_turn, turns, unroll_loop, begun}
+use Rattle.proc_loops.specs.Turns.{Run, most_turns, is_full, one_more, closed, ended, stepped, cut, turn, after_turn, turns, unroll_loop, begun}
 use Rattle.proc_loops.specs.Unrolled.{put_in, all_put_in, each, arm_in, sides, other_side, assignment, unroll, unrolled, unrolled_if}
 use Rattle.proc_loops.specs.Laws.{has_loop, has_loop_by_parts}
 use Rattle.proc_loops.proofs.AssignForms.{any_map}
@@ -140,7 +140,7 @@ Goes more = (v : ConstValue) (done : List Stmt) (p : Progress) (r : List Stmt ×
 after_keeps : (more : ConstValue → List Stmt → Progress → Or_fault (List Stmt × Progress)) → Goes more → (h : Loop) (v : ConstValue) (done : List Stmt) (p : Progress) (t : Turn) (r : List Stmt × Progress)
     → TurnFree t → All IsFree done → IsShort p → after_turn more h v done p t ≡ Ok r → All IsFree r.0 × IsShort r.1
 unfolding after_turn TurnFree
-after_keeps more goes h v done p Ended r free all short is = answered (All IsFree) _ p r is (All-push IsFree done (ended h.variable v) all (loop-Assign _ _ _ _)) short
+after_keeps more goes h v done p Ended r free all short is = answered (All IsFree) _ (closed p) r is (All-push IsFree done (ended h.variable v) all (loop-Assign _ _ _ _)) short
 after_keeps more goes h v done p Full r free all short is = answered (All IsFree) done (cut p) r is all short
 after_keeps more goes h v done p (Cut s q) r free all short is = answered (All IsFree) _ q r is (All-push IsFree done s all free.0) free.1
 after_keeps more goes h v done p (Made s w q) r free all short is = goes w (done ++ s ∷ []) q r (All-push IsFree done s all free.0) free.1 is

@@ -8,7 +8,7 @@ use Rattle.proc_loops.specs.declared.fault.LoopFault.{LoopFault}
 use Rattle.proc_loops.specs.declared.progress.Progress.{Progress}
 use Rattle.proc_loops.specs.declared.turn.Turn.TheVariants.{Ended, Full, Cut, Made}
 use Rattle.proc_loops.specs.Faults.{and_then}
-use Rattle.proc_loops.specs.Turns.{Run, ended, cut, turn, after_turn, turns}
+use Rattle.proc_loops.specs.Turns.{Run, closed, ended, cut, turn, after_turn, turns}
 
 pub turns-next : (k n : ℕ) (h : Loop) (inside : ConstValue → Values) (body : Run Stmt) (v : ConstValue) (done : List Stmt) (p : Progress)
     → 0 < k → n ≡ k - 1 → turns k h inside body v done p ≡ and_then (turn h (inside v) body v p) (after_turn (turns n h inside body) h v done p)
@@ -22,7 +22,7 @@ unfolding and_then
 turns-fault k h inside body v done p fault more is = turns-next k (k - 1) h inside body v done p more refl ∙ ap (λ r. and_then r (after_turn (turns (k - 1) h inside body) h v done p)) is
 
 pub turns-ended : (k : ℕ) (h : Loop) (inside : ConstValue → Values) (body : Run Stmt) (v : ConstValue) (done : List Stmt) (p : Progress)
-    → 0 < k → turn h (inside v) body v p ≡ Ok Ended → turns k h inside body v done p ≡ Ok (done ++ ended h.variable v ∷ [], p)
+    → 0 < k → turn h (inside v) body v p ≡ Ok Ended → turns k h inside body v done p ≡ Ok (done ++ ended h.variable v ∷ [], closed p)
 unfolding and_then after_turn
 turns-ended k h inside body v done p more is = turns-next k (k - 1) h inside body v done p more refl ∙ ap (λ r. and_then r (after_turn (turns (k - 1) h inside body) h v done p)) is
 

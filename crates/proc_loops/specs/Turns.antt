@@ -64,9 +64,13 @@ turn h inside body v p = do
       w ← constant (value_within inside 32 h.step)
       Ok (Made r.0 (stepped h v w) r.1))))
 
+-- the assignment that a loop leaves is none of the text: the 32 that it weighs are taken off its header
+abbrev pub closed : Progress → Progress
+closed p = record p { headers = p.headers - 32 }
+
 -- what follows a turn that began at the value v, behind the statements done
 unfoldable pub after_turn : (ConstValue → List Stmt → Progress → Or_fault (List Stmt × Progress)) → Loop → ConstValue → List Stmt → Progress → Turn → Or_fault (List Stmt × Progress)
-after_turn more h v done p Ended = Ok (done ++ ended h.variable v ∷ [], p)
+after_turn more h v done p Ended = Ok (done ++ ended h.variable v ∷ [], closed p)
 after_turn more h v done p Full = Ok (done, cut p)
 after_turn more h v done p (Cut s q) = Ok (done ++ s ∷ [], q)
 after_turn more h v done p (Made s w q) = more w (done ++ s ∷ []) q

@@ -10,12 +10,12 @@ ghost use Rattle.proc_loops.specs.declared.pieces.Sides as two;
 ghost use Rattle.proc_loops.specs.declared.turn.Turn.TheVariants.{Made};
 ghost use Rattle.vlog_const.specs.Names.{values_of};
 ghost use Rattle.proc_loops.specs.Faults.{Answers, Or_fault, and_then};
-ghost use Rattle.proc_loops.specs.Turns.{ended, stepped};
+ghost use Rattle.proc_loops.specs.Turns.{closed, ended, stepped};
 ghost use Rattle.proc_loops.specs.Unrolled.{assignment};
 
 use crate::fault::LoopFault;
 use crate::header_values::stepped;
-use crate::progress::Progress;
+use crate::progress::{Progress, closed};
 use crate::putting::put_in;
 use crate::scope::Scope;
 use crate::turn::Turn;
@@ -85,10 +85,10 @@ pub fn ended(
     v: ConstValue,
     p: Progress,
 ) -> Result<(Items<Stmt>, Progress), LoopFault>
-    ensures { Answers result (Ok (done ++ ended header.now.variable v ∷ [], p)) }
+    ensures { Answers result (Ok (done ++ ended header.now.variable v ∷ [], closed p)) }
 {
     let s = end(alloc, &header.variable, v)?;
-    pushed(done, s, p)
+    pushed(done, s, closed(p))
 }
 
 /// The assignment of what a variable ends with.

@@ -1,6 +1,6 @@
 //! How far an unrolling has come.
 ghost use Rattle.std.specs.Prelude.{◌≡◌, ◌<◌, false};
-ghost use Rattle.proc_loops.specs.Turns.{begun, counted, cut, is_full, most_turns, one_more};
+ghost use Rattle.proc_loops.specs.Turns.{begun, closed, counted, cut, is_full, most_turns, one_more};
 
 /// So many turns are one too many.
 const MOST: u32 = 65536;
@@ -60,6 +60,16 @@ pub fn cut(p: Progress) -> Progress
     ensures { result ≡ cut p }
 {
     Progress { is_cut: true, ..p }
+}
+
+/// With a loop behind it, whose last assignment is none of the text: the 32 that it weighs are taken off.
+pub fn closed(p: Progress) -> Progress
+    ensures { result ≡ closed p }
+{
+    Progress {
+        headers: p.headers.saturating_sub(32),
+        ..p
+    }
 }
 
 /// With the widths of one more header.
