@@ -1,0 +1,3 @@
+mod BitForms
+mod TestForms
+mod NumberForms
