@@ -65,7 +65,8 @@ fn put(gates: &mut Vec<Gate<u32, u32>>, gate: Gate<u32, u32>) -> Result<Node, Ga
         return Err(GateFault::Full);
     }
     gates.push(gate)?;
-    let Some(node) = IdSlice::<NodeTag, Gate<u32, u32>>::new(gates.as_slice()).try_id(n as u64) else {
+    let Some(node) = IdSlice::<NodeTag, Gate<u32, u32>>::new(gates.as_slice()).try_id(n as u64)
+    else {
         unreachable!();
     };
     Ok(node)
