@@ -10,7 +10,6 @@ use Rattle.std.proofs.lemmas.Simd.{map-map}
 use Rattle.thin_tree.specs.declared.tree.Class.TheVariants.{Input, Net, Register}
 use Rattle.thin_tree.specs.Tree as tree
 use Rattle.thin_tree.specs.Tree.{Declared, Assignment, Process, Module, Name, Expr}
-use Rattle.thin_tree.specs.Grammar.{declared}
 use Rattle.thin_form.specs.Formula.{Formula}
 use Rattle.thin_form.specs.Design as designs
 use Rattle.thin_form.specs.Design.{Design, IsAscending, names}

@@ -1,0 +1,6 @@
+pub mod Answers
+pub mod Saying
+pub mod Weighing
+pub mod Counting
+pub mod Small
+pub mod OneFlat
