@@ -1,5 +1,6 @@
 pub mod Answers
 pub mod Saying
+pub mod Forms
 pub mod Weighing
 pub mod Counting
 pub mod Small

@@ -14,10 +14,8 @@ use Rattle.vlog_const.specs.declared.shape.Shape.{Shape}
 use Rattle.vlog_const.specs.Widths.{unary_context, left_context, right_context, operand_family, family_of}
 use Rattle.design_form.specs.declared.parts.Parts.{Parts}
 use Rattle.design_sizes.specs.Sizes.{Sized, has_name, shape_of, sized, below}
-use Rattle.design_sizes.proofs.PartForms.{sized-form, below-Name, below-Brackets, below-Unary, below-Binary}
-use Rattle.design_sizes.proofs.NameForms.{named-Name, named-Brackets, named-Unary, named-Binary}
 use Rattle.elab_weight.specs.PartWeights.{unary_weight, binary_weight, form_weight, operator_weight, part_weight, parts_weight}
-use Rattle.elab_weight.proofs.WeightForms.{weight-Name, weight-Brackets, weight-Unary, weight-Binary}
+use Rattle.flat_laws.proofs.Forms.{named-Name, named-Brackets, named-Unary, named-Binary, sized-form, below-Name, below-Brackets, below-Unary, below-Binary, weight-Name, weight-Brackets, weight-Unary, weight-Binary}
 use Rattle.thin_tree.specs.Tree as tree
 use Rattle.thin_tree.specs.Postfix.{postfix, brackets, negation, both, either}
 use Rattle.thin_tree.specs.Form.{and_then, inverted, joined, said}

@@ -10,6 +10,13 @@ ghost use Rattle.thin_form.specs.Order.{IsOrderOf, of_class, no_wires};
 use std::alloc::{AllocError, Global};
 use thin_tree::{Class, Declared, FormFault, Module};
 
+/// What is declared.
+fn all<'a>(alloc: Global, parsed: &Module<'a>) -> Result<Vec<Declared<'a>>, AllocError>
+    ensures { IfOk result (λ v. all_declared v.items ≡ declared (a_module parsed.now)) }
+{
+    Vec::from_slice(alloc, &parsed.declared)
+}
+
 /// Each name is below the next.
 fn ascends(declared: &[Declared]) -> bool
     ensures { IsTrue result ↔ IsAscending (names_of (all_declared declared.now)) }
@@ -25,7 +32,7 @@ pub(crate) fn ordered<'a>(
     ensures order { IfOk result (λ v. IsOrderOf (declared (a_module parsed.now)) (all_declared v.items)) }
     ensures not_of_form { IsErrOf result FormFault.NotOfForm → IsDeclaredOnce (declared (a_module parsed.now)) → ⊥ }
 {
-    let mut declared = parsed.declared.to_vec(alloc)?;
+    let mut declared = all(alloc, parsed)?;
     declared.sort_by_key(|d| d.name)?;
     if !ascends(&declared) {
         return Err(FormFault::NotOfForm);
