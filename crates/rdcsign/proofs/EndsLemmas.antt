@@ -1,5 +1,5 @@
 -- Serves specs/Ends.antt and specs/Signoff.antt: how the stages of a call join, and which status each end has.
-use Rattle.std.proofs.Common.{◌≡◌, ℕ, ◌≤◌, Bool, true, false, cond, List, [], ◌∷◌, ◌++◌, length, Option, Some, None, Ok, Err, refl, sym, ap, subst, ◌∙◌, inl, inr, ◌⊎◌}
+use Rattle.std.proofs.Common.{◌≡◌, ℕ, ◌≤◌, Bool, true, false, cond, List, [], ◌∷◌, ◌++◌, length, Option, Some, None, Result, Ok, Err, refl, sym, ap, subst, ◌∙◌, inl, inr, ◌⊎◌}
 use Rattle.std.specs.Prelude.{IsSomeAnd, IfSome}
 use Rattle.rdc_outside.specs.Shelf.{Files, Calls, Call, Load, list_call}
 use Rattle.rdc_outside.specs.declared.outcome.Status.{Status}
@@ -23,11 +23,17 @@ use Rattle.vlog_tree.specs.Lexemes.{Lexeme, lexemes, place_at}
 use Rattle.vlog_parse.specs.declared.fault.ParseFault.{ParseFault}
 use Rattle.vlog_parse.specs.declared.fault.ParseFault.TheVariants as parsing
 use Rattle.vlog_parse.specs.Begins as parse
-use Rattle.rdcsign.specs.Faults.{stopped, unread, unparsed}
+use Rattle.design_form.specs.declared.parts.Parts.{Parts}
+use Rattle.vlog_const.specs.declared.answer.ConstFault.TheVariants as const
+use Rattle.elab_names.specs.declared.fault.ElabFault.{ElabFault}
+use Rattle.elab_names.specs.declared.fault.ElabFault.TheVariants as elab
+use Rattle.vlog_elab.specs.Flat.{Gives}
+use Rattle.front.specs.Stages.{lib_in}
+use Rattle.rdcsign.specs.Faults.{stopped, unread, unparsed, unelaborated}
 use Rattle.rdcsign.specs.Lexemes.{end_of, lexemes_of}
-use Rattle.rdcsign.specs.Ends.{IsLoaded, IsRefusedLoad, loads_of, load_unless_memory, IsOrMemory, ExpandTo, HaveTokens, IsUnparsed, SpellModules, DeclaresNone, IsJudgement, IsReport, Ends, EndsRequest, at_constraints, at_sources, at_tokens, at_modules, with_all}
+use Rattle.rdcsign.specs.Ends.{IsLoaded, IsRefusedLoad, loads_of, load_unless_memory, IsOrMemory, ExpandTo, HaveTokens, IsUnparsed, IsUnelaborated, SpellModules, SpellFlat, DeclaresNone, IsJudgement, IsReport, Ends, EndsRequest, at_constraints, at_sources, at_tokens, at_modules, at_design, with_all}
 use Rattle.rdcsign.specs.Loads.{with_loads}
-use Rattle.rdcsign.specs.Answers.{EndsText, no_tokens, no_modules, judged, EndsListed, EndsWords}
+use Rattle.rdcsign.specs.Answers.{EndsText, no_tokens, no_modules, no_flat, judged, EndsListed, EndsWords}
 use Rattle.rdcsign.specs.Signoff.{IsThere, IsTooBig, AreRead, IsJudgedAs, IsMissing, IsFaulty, IsUnformed, IsCauseFor, IsCauseOf, IsCause}
 
 -- a load and then more loads
@@ -88,6 +94,15 @@ same_end {text = text} expansion = ap (λ (bs : List ℕ). place_at text.places 
 have : (told : Option Files) (r : Request) (loaded : List (List ℕ)) (text : Text) (expansion : IsExpansion told r.files loaded text) (tokens : List Token) → AreTokens 0 text.bytes tokens → HaveTokens told r loaded expansion.known tokens
 have told r loaded text expansion tokens are = record { expand = expansion.expands; are_tokens = subst (λ (bytes : List ℕ). AreTokens 0 bytes tokens) expansion.is_text.bytes are }
 
+spelled : (told : Option Files) (r : Request) (loaded : List (List ℕ)) (text : Text) (expansion : IsExpansion told r.files loaded text) (tokens : List Token) (ms : List Module) → AreTokens 0 text.bytes tokens
+    → parse.IsAnswer (lexemes text.bytes text.places tokens) ms → SpellModules told r loaded ms
+spelled told r loaded text expansion tokens ms are is = record {
+  known = expansion.known;
+  tokens = tokens;
+  have = have told r loaded text expansion tokens are;
+  answer = subst (λ (ls : List Lexeme). parse.IsAnswer ls ms) (same_lexemes expansion tokens) is;
+}
+
 -- how what is known at the end of an expansion ends the call
 ends_known : (told : Option Files) (r : Request) (outcome : Outcome) (constraints : List ℕ) (loaded : List (List ℕ)) (text : Text) → IsLoaded told r.constraints constraints → IsExpansion told r.files loaded text
     → EndsText r constraints text outcome → Ends told r outcome (loads_of (r.constraints ∷ loaded))
@@ -104,9 +119,10 @@ ends_known told r outcome constraints loaded text c expansion (no_modules tokens
       is_fault = subst (λ (ls : List Lexeme). parse.IsFault (end_of known) ls fault) (same_lexemes expansion tokens) (subst (λ (at : Place). parse.IsFault at (lexemes text.bytes text.places tokens) fault) (same_end expansion) is);
       outcome_is = subst (λ (fs : List (List ℕ)). IsOrMemory outcome (unparsed fs fault)) expansion.is_text.files outcome_is;
     }) refl
-ends_known told r outcome constraints loaded text c expansion (judged tokens ms are is judgement) =
-    with_all constraints loaded ms c
-    (record { known = expansion.known; tokens = tokens; have = have told r loaded text expansion tokens are; answer = subst (λ (ls : List Lexeme). parse.IsAnswer ls ms) (same_lexemes expansion tokens) is }) judgement refl
+ends_known told r outcome constraints loaded text c expansion (no_flat tokens ms are is out) =
+    at_design constraints loaded ms (spelled told r loaded text expansion tokens ms are is) c (subst (λ (fs : List (List ℕ)). IsUnelaborated fs r.top ms outcome) expansion.is_text.files out) refl
+ends_known told r outcome constraints loaded text c expansion (judged tokens ms flat are is gives judgement) =
+    with_all constraints loaded flat c (record { modules = ms; spell = spelled told r loaded text expansion tokens ms are is; gives = gives }) judgement refl
 
 -- it ends with the text of the sources
 pub ends_with_text : (told later : Option Files) (r : Request) (outcome : Outcome) (old mid new : Option Calls) (constraints : List ℕ) (text : Text) → later ≡ told → IsLoaded told r.constraints constraints
@@ -130,12 +146,12 @@ ends_words told words r outcome old new is ends = record {
 there : (files : Files) (name bytes : List ℕ) → IsLoaded (Some files) name bytes → IsThere files name
 there files name bytes loaded = subst (λ (o : Option (List ℕ)). IsSomeAnd o (λ bs. length bs ≤ MOST)) (sym loaded.value) loaded.within
 
-judged_as : (files : Files) (r : Request) (constraints : List ℕ) (loaded : List (List ℕ)) (ms : List Module) (report : List ℕ) (crossing : Bool) → IsLoaded (Some files) r.constraints constraints → SpellModules (Some files) r loaded ms
-    → IsReport r.top constraints ms report crossing → IsJudgedAs crossing files r
-judged_as files r constraints loaded ms report crossing c t is = record {
+judged_as : (files : Files) (r : Request) (constraints : List ℕ) (loaded : List (List ℕ)) (flat : Parts) (report : List ℕ) (crossing : Bool) → IsLoaded (Some files) r.constraints constraints → SpellFlat (Some files) r loaded flat
+    → IsReport r.top constraints flat report crossing → IsJudgedAs crossing files r
+judged_as files r constraints loaded flat report crossing c t is = record {
   design = is.design;
   roles = is.roles;
-  spelled = record { are_read = record { constraints = constraints; loaded = loaded; modules = ms; has_constraints = c; spell = t }; of_form = is.of_form };
+  spelled = record { are_read = record { constraints = constraints; loaded = loaded; flat = flat; has_constraints = c; spell = t }; of_form = is.of_form };
   verdict = sym is.verdict;
 }
 
@@ -229,7 +245,7 @@ module _ (files : Files) (r : Request) (loaded : List (List ℕ)) (first : IsThe
       -- a fault of parsing that is one of the source
       faulty_modules : (fault : ParseFault) → Source (details_of (unparsed known.files fault)) ≡ unparsed known.files fault → parse.IsFault (end_of known) (lexemes_of known tokens) fault → IsCauseFor files r (status_at (Source (details_of (unparsed known.files fault))) whole)
       faulty_modules fault said is =
-          cause_of_source files r (details_of (unparsed known.files fault)) (first, (details_of (unparsed known.files fault), (loaded, inr (inr (known, tokens, are, record { fault = fault; is_fault = is; outcome_is = inl said }))))) whole
+          cause_of_source files r (details_of (unparsed known.files fault)) (first, (details_of (unparsed known.files fault), (loaded, inr (inr (inl (known, tokens, are, record { fault = fault; is_fault = is; outcome_is = inl said })))))) whole
 
       cause_of_unparsed : (fault : ParseFault) → parse.IsFault (end_of known) (lexemes_of known tokens) fault → IsCauseFor files r (status_at (unparsed known.files fault) whole)
       cause_of_unparsed parsing.Memory is = cause_of_memory files r whole
@@ -237,20 +253,50 @@ module _ (files : Files) (r : Request) (loaded : List (List ℕ)) (first : IsThe
       cause_of_unparsed (parsing.Syntax place) is = faulty_modules (parsing.Syntax place) refl is
       cause_of_unparsed (parsing.TooDeep place) is = faulty_modules (parsing.TooDeep place) refl is
 
-unformed : (files : Files) (r : Request) (constraints : List ℕ) (n : List ℕ) (are : AreRead files r) → are.constraints ≡ constraints → IsJudgement r constraints are.modules (NotYet n) → IsUnformed files r
-unformed files r constraints n are same (inl is) = record { are_read = are; unformed = inl is.1 }
-unformed files r constraints n are same (inr is) = record { are_read = are; unformed = inr (subst (λ (c : List ℕ). DeclaresNone r.top c are.modules) (sym same) is.1) }
+  module _ (ms : List Module) (spell : SpellModules (Some files) r loaded ms) where
+    -- a fault of elaboration that is one of the source
+    faulty_design : (fault : ElabFault) → Source (details_of (unelaborated spell.known.files fault)) ≡ unelaborated spell.known.files fault → Gives (lib_in ms []) r.top (Err fault) → IsCauseFor files r (status_at (Source (details_of (unelaborated spell.known.files fault))) whole)
+    faulty_design fault said is =
+        cause_of_source files r (details_of (unelaborated spell.known.files fault)) (first, (details_of (unelaborated spell.known.files fault), (loaded, inr (inr (inr (ms, spell, record { fault = fault; gives = is; outcome_is = inl said })))))) whole
 
-cause_with_all : (files : Files) (r : Request) (constraints : List ℕ) (loaded : List (List ℕ)) (ms : List Module) (outcome : Outcome) → IsLoaded (Some files) r.constraints constraints → SpellModules (Some files) r loaded ms
-    → IsJudgement r constraints ms outcome → (whole : Bool) → IsCauseFor files r (status_at outcome whole)
-cause_with_all files r constraints loaded ms Usage c t is whole = absurd is
-cause_with_all files r constraints loaded ms (Absent n) c t is whole = absurd is
-cause_with_all files r constraints loaded ms (Read n) c t is whole = absurd is
-cause_with_all files r constraints loaded ms (Source details) c t is whole = absurd is
-cause_with_all files r constraints loaded ms (NotYet n) c t is whole =
-    cause_of_notyet files r n (inr (unformed files r constraints n (record { constraints = constraints; loaded = loaded; modules = ms; has_constraints = c; spell = t }) refl is)) whole
-cause_with_all files r constraints loaded ms Memory c t is whole = cause_of_memory files r whole
-cause_with_all files r constraints loaded ms (Judged report crossing) c t is whole = cause_of_judged files r report crossing (judged_as files r constraints loaded ms report crossing c t is) whole
+    cause_of_unelaborated : (fault : ElabFault) → Gives (lib_in ms []) r.top (Err fault) → IsCauseFor files r (status_at (unelaborated spell.known.files fault) whole)
+    cause_of_unelaborated elab.Memory is = cause_of_memory files r whole
+    cause_of_unelaborated (elab.NoModule name None) is = faulty_design (elab.NoModule name None) refl is
+    cause_of_unelaborated (elab.NoModule name (Some place)) is = faulty_design (elab.NoModule name (Some place)) refl is
+    cause_of_unelaborated (elab.TwoModules name place) is = faulty_design (elab.TwoModules name place) refl is
+    cause_of_unelaborated (elab.NoPort name place) is = faulty_design (elab.NoPort name place) refl is
+    cause_of_unelaborated (elab.PortCount place) is = faulty_design (elab.PortCount place) refl is
+    cause_of_unelaborated (elab.Undeclared name place) is = faulty_design (elab.Undeclared name place) refl is
+    cause_of_unelaborated (elab.TwiceDeclared name place) is = faulty_design (elab.TwiceDeclared name place) refl is
+    cause_of_unelaborated (elab.NotAssignable place) is = faulty_design (elab.NotAssignable place) refl is
+    cause_of_unelaborated (elab.Recursion name place) is = faulty_design (elab.Recursion name place) refl is
+    cause_of_unelaborated (elab.HierLimit place) is = faulty_design (elab.HierLimit place) refl is
+    cause_of_unelaborated (elab.BadRange place) is = faulty_design (elab.BadRange place) refl is
+    cause_of_unelaborated (elab.WidthLimit place) is = faulty_design (elab.WidthLimit place) refl is
+    cause_of_unelaborated (elab.GenerateLimit place) is = faulty_design (elab.GenerateLimit place) refl is
+    cause_of_unelaborated (elab.Const const.Memory) is = cause_of_memory files r whole
+    cause_of_unelaborated (elab.Const (const.NotConstant place)) is = faulty_design (elab.Const (const.NotConstant place)) refl is
+    cause_of_unelaborated (elab.Const (const.TooWide place)) is = faulty_design (elab.Const (const.TooWide place)) refl is
+    cause_of_unelaborated (elab.Const (const.ZeroDivisor place)) is = faulty_design (elab.Const (const.ZeroDivisor place)) refl is
+    cause_of_unelaborated (elab.Undriven name place) is = faulty_design (elab.Undriven name place) refl is
+    cause_of_unelaborated (elab.TwiceDriven name place) is = faulty_design (elab.TwiceDriven name place) refl is
+    cause_of_unelaborated (elab.Heavy place) is = faulty_design (elab.Heavy place) refl is
+    cause_of_unelaborated (elab.NotBuilt place) is = faulty_design (elab.NotBuilt place) refl is
+
+unformed : (files : Files) (r : Request) (constraints : List ℕ) (n : List ℕ) (are : AreRead files r) → are.constraints ≡ constraints → IsJudgement r constraints are.flat (NotYet n) → IsUnformed files r
+unformed files r constraints n are same (inl is) = record { are_read = are; unformed = inl is.1 }
+unformed files r constraints n are same (inr is) = record { are_read = are; unformed = inr (subst (λ (c : List ℕ). DeclaresNone c are.flat) (sym same) is.1) }
+
+cause_with_all : (files : Files) (r : Request) (constraints : List ℕ) (loaded : List (List ℕ)) (flat : Parts) (outcome : Outcome) → IsLoaded (Some files) r.constraints constraints → SpellFlat (Some files) r loaded flat
+    → IsJudgement r constraints flat outcome → (whole : Bool) → IsCauseFor files r (status_at outcome whole)
+cause_with_all files r constraints loaded flat Usage c t is whole = absurd is
+cause_with_all files r constraints loaded flat (Absent n) c t is whole = absurd is
+cause_with_all files r constraints loaded flat (Read n) c t is whole = absurd is
+cause_with_all files r constraints loaded flat (Source details) c t is whole = absurd is
+cause_with_all files r constraints loaded flat (NotYet n) c t is whole =
+    cause_of_notyet files r n (inr (unformed files r constraints n (record { constraints = constraints; loaded = loaded; flat = flat; has_constraints = c; spell = t }) refl is)) whole
+cause_with_all files r constraints loaded flat Memory c t is whole = cause_of_memory files r whole
+cause_with_all files r constraints loaded flat (Judged report crossing) c t is whole = cause_of_judged files r report crossing (judged_as files r constraints loaded flat report crossing c t is) whole
 
 cause_of_ends : (files : Files) (r : Request) (outcome : Outcome) (made : List Call) → Ends (Some files) r outcome made → (whole : Bool) → IsCauseFor files r (status_at outcome whole)
 cause_of_ends files r outcome made (at_constraints is made-is) whole = cause_at_constraints files r outcome is whole
@@ -260,7 +306,9 @@ cause_of_ends files r outcome made (at_tokens constraints loaded known c expand 
     cause_of_either files r outcome (unread known.files is.fault) whole is.outcome_is (cause_of_unread files r loaded (there files r.constraints constraints c) whole known expand is.fault is.is_fault)
 cause_of_ends files r outcome made (at_modules constraints loaded known tokens c are is made-is) whole =
     cause_of_either files r outcome (unparsed known.files is.fault) whole is.outcome_is (cause_of_unparsed files r loaded (there files r.constraints constraints c) whole known are.expand tokens are is.fault is.is_fault)
-cause_of_ends files r outcome made (with_all constraints loaded ms c t is made-is) whole = cause_with_all files r constraints loaded ms outcome c t is whole
+cause_of_ends files r outcome made (at_design constraints loaded ms spell c is made-is) whole =
+    cause_of_either files r outcome (unelaborated spell.known.files is.fault) whole is.outcome_is (cause_of_unelaborated files r loaded (there files r.constraints constraints c) whole ms spell is.fault is.gives)
+cause_of_ends files r outcome made (with_all constraints loaded flat c t is made-is) whole = cause_with_all files r constraints loaded flat outcome c t is whole
 
 cause_of_request : (files : Files) (asked : Option Request) (outcome : Outcome) (made : List Call) → EndsRequest (Some files) asked outcome made → (whole : Bool) → IsCauseOf files asked (status_at outcome whole)
 cause_of_request files None outcome made ends true = ap status_of ends.0

@@ -1,5 +1,5 @@
 -- Serves specs/Headline.antt: a call that answers clean has judged the one design that the files spell, and that design is safe.
-use Rattle.std.proofs.Common.{◌≡◌, ℕ, Bool, true, false, List, Option, Some, None, Result, Ok, refl, sym, ap, subst, ◌∙◌, inl, inr}
+use Rattle.std.proofs.Common.{◌≡◌, ℕ, Bool, true, false, List, [], Option, Some, None, Result, Ok, refl, sym, ap, subst, ◌∙◌, inl, inr}
 use Rattle.std.specs.Prelude.{IfSome}
 use Rattle.rdc_outside.specs.Shelf.{Files, Call}
 use Rattle.rdc_outside.specs.declared.outcome.Status.{Status}
@@ -29,9 +29,16 @@ use Rattle.thin_cons.proofs.Declared.{one_declaration}
 use Rattle.run_model.specs.Safe.{IsSafe}
 use Rattle.rdcsign.specs.Request.{Request, request_of}
 use Rattle.rdcsign.specs.Outcome.{Outcome, Usage, Absent, Read, Source, NotYet, Memory, Judged, Says}
-use Rattle.rdcsign.specs.Faults.{stopped, unread, unparsed}
+use Rattle.design_form.specs.declared.parts.Parts.{Parts}
+use Rattle.vlog_const.specs.declared.answer.ConstFault.TheVariants as const
+use Rattle.elab_names.specs.declared.fault.ElabFault.{ElabFault}
+use Rattle.elab_names.specs.declared.fault.ElabFault.TheVariants as elab
+use Rattle.vlog_elab.specs.Flat.{Gives}
+use Rattle.front.specs.Stages.{lib_in}
+use Rattle.flat_laws.proofs.OneFlat.{one_flat}
+use Rattle.rdcsign.specs.Faults.{stopped, unread, unparsed, unelaborated}
 use Rattle.rdcsign.specs.Lexemes.{lexemes_of}
-use Rattle.rdcsign.specs.Ends.{IsLoaded, IsOrMemory, SpellModules, IsReport, Ends, EndsRequest, at_constraints, at_sources, at_tokens, at_modules, with_all}
+use Rattle.rdcsign.specs.Ends.{IsLoaded, IsOrMemory, SpellModules, SpellFlat, IsReport, Ends, EndsRequest, at_constraints, at_sources, at_tokens, at_modules, at_design, with_all}
 use Rattle.rdcsign.specs.Signoff.{Spell}
 use Rattle.rdcsign.specs.DesignMachine.{machine_of}
 use Rattle.rdcsign.specs.Headline.{CleanIsSafe}
@@ -62,14 +69,20 @@ one_source files r loaded others ms ns a b =
     let lexemes-is : lexemes_of a.known a.tokens ≡ lexemes_of b.known b.tokens = ap (λ (s : State). lexemes_of s a.tokens) known-is ∙ ap (lexemes_of b.known) tokens-is in
     one_tree laws (lexemes_of b.known b.tokens) ms ns (subst (λ (ls : List Lexeme). parse.IsAnswer ls ms) lexemes-is a.answer).spelled b.answer.spelled
 
+-- told files spell one flat design
+one_design_spelled : (files : Files) (r : Request) (loaded others : List (List ℕ)) (a b : Parts) → SpellFlat (Some files) r loaded a → SpellFlat (Some files) r others b → a ≡ b
+one_design_spelled files r loaded others a b x y =
+    let modules-is : x.modules ≡ y.modules = one_source files r loaded others x.modules y.modules x.spell y.spell in
+    one_flat (lib_in y.modules []) r.top a b (subst (λ (ms : List Module). Gives (lib_in ms []) r.top (Ok a)) modules-is x.gives) y.gives
+
 -- the report of a clean call is that of the design that the files spell
-spelled_is_safe : IsOneDesign → (files : Files) (r : Request) (constraints : List ℕ) (loaded : List (List ℕ)) (ms : List Module) (report : List ℕ) (crossing : Bool) → crossing ≡ false → IsLoaded (Some files) r.constraints constraints
-    → SpellModules (Some files) r loaded ms → IsReport r.top constraints ms report crossing → (design : Design) (roles : List Role) → Spell files r design roles → IsSafe (machine_of design roles)
-spelled_is_safe one files r constraints loaded ms report crossing clean c t is design roles spell =
+spelled_is_safe : IsOneDesign → (files : Files) (r : Request) (constraints : List ℕ) (loaded : List (List ℕ)) (flat : Parts) (report : List ℕ) (crossing : Bool) → crossing ≡ false → IsLoaded (Some files) r.constraints constraints
+    → SpellFlat (Some files) r loaded flat → IsReport r.top constraints flat report crossing → (design : Design) (roles : List Role) → Spell files r design roles → IsSafe (machine_of design roles)
+spelled_is_safe one files r constraints loaded flat report crossing clean c t is design roles spell =
     let constraints-is : constraints ≡ spell.are_read.constraints = same_bytes constraints spell.are_read.constraints (sym c.value ∙ spell.are_read.has_constraints.value) in
-    let modules-is : ms ≡ spell.are_read.modules = one_source files r loaded spell.are_read.loaded ms spell.are_read.modules t spell.are_read.spell in
-    let says : SaysDesign r.top ms design = subst (λ (ns : List Module). SaysDesign r.top ns design) (sym modules-is) spell.of_form.design_is in
-    let design-is : is.design ≡ design = one r.top ms is.design design is.of_form.design_is says in
+    let flat-is : flat ≡ spell.are_read.flat = one_design_spelled files r loaded spell.are_read.loaded flat spell.are_read.flat t spell.are_read.spell in
+    let says : SaysDesign flat design = subst (λ (f : Parts). SaysDesign f design) (sym flat-is) spell.of_form.design_is in
+    let design-is : is.design ≡ design = one flat is.design design is.of_form.design_is says in
     let declares : Declares design constraints roles = subst (λ (bytes : List ℕ). Declares design bytes roles) (sym constraints-is) spell.of_form.roles_are in
     let declares' : Declares is.design constraints roles = subst (λ (d : Design). Declares d constraints roles) (sym design-is) declares in
     let roles-is : is.roles ≡ roles = one_declaration is.design constraints is.roles roles is.of_form.roles_are declares' in
@@ -101,6 +114,30 @@ no_unparsed files (parsing.Unsupported word place) report crossing is = absurd c
 no_unparsed files (parsing.Syntax place) report crossing is = absurd cc
 no_unparsed files (parsing.TooDeep place) report crossing is = absurd cc
 
+no_unelaborated : (files : List (List ℕ)) (fault : ElabFault) (report : List ℕ) (crossing : Bool) → Judged report crossing ≡ unelaborated files fault → ⊥
+no_unelaborated files elab.Memory report crossing is = absurd cc
+no_unelaborated files (elab.NoModule name None) report crossing is = absurd cc
+no_unelaborated files (elab.NoModule name (Some place)) report crossing is = absurd cc
+no_unelaborated files (elab.TwoModules name place) report crossing is = absurd cc
+no_unelaborated files (elab.NoPort name place) report crossing is = absurd cc
+no_unelaborated files (elab.PortCount place) report crossing is = absurd cc
+no_unelaborated files (elab.Undeclared name place) report crossing is = absurd cc
+no_unelaborated files (elab.TwiceDeclared name place) report crossing is = absurd cc
+no_unelaborated files (elab.NotAssignable place) report crossing is = absurd cc
+no_unelaborated files (elab.Recursion name place) report crossing is = absurd cc
+no_unelaborated files (elab.HierLimit place) report crossing is = absurd cc
+no_unelaborated files (elab.BadRange place) report crossing is = absurd cc
+no_unelaborated files (elab.WidthLimit place) report crossing is = absurd cc
+no_unelaborated files (elab.GenerateLimit place) report crossing is = absurd cc
+no_unelaborated files (elab.Const const.Memory) report crossing is = absurd cc
+no_unelaborated files (elab.Const (const.NotConstant place)) report crossing is = absurd cc
+no_unelaborated files (elab.Const (const.TooWide place)) report crossing is = absurd cc
+no_unelaborated files (elab.Const (const.ZeroDivisor place)) report crossing is = absurd cc
+no_unelaborated files (elab.Undriven name place) report crossing is = absurd cc
+no_unelaborated files (elab.TwiceDriven name place) report crossing is = absurd cc
+no_unelaborated files (elab.Heavy place) report crossing is = absurd cc
+no_unelaborated files (elab.NotBuilt place) report crossing is = absurd cc
+
 no_either : (wanted : Outcome) (report : List ℕ) (crossing : Bool) → (Judged report crossing ≡ wanted → ⊥) → IsOrMemory (Judged report crossing) wanted → ⊥
 no_either wanted report crossing none (inl is) = none is
 no_either wanted report crossing none (inr is) = absurd cc
@@ -112,7 +149,8 @@ judged_is_safe one files r report crossing made clean (at_constraints is made-is
 judged_is_safe one files r report crossing made clean (at_sources constraints loaded c is made-is) = absurd (no_either (stopped loaded is.fault) report crossing (no_stop loaded is.fault report crossing) is.outcome_is)
 judged_is_safe one files r report crossing made clean (at_tokens constraints loaded known c expand is made-is) = absurd (no_either (unread known.files is.fault) report crossing (no_unread known.files is.fault report crossing) is.outcome_is)
 judged_is_safe one files r report crossing made clean (at_modules constraints loaded known tokens c are is made-is) = absurd (no_either (unparsed known.files is.fault) report crossing (no_unparsed known.files is.fault report crossing) is.outcome_is)
-judged_is_safe one files r report crossing made clean (with_all constraints loaded ms c t is made-is) = spelled_is_safe one files r constraints loaded ms report crossing clean c t is
+judged_is_safe one files r report crossing made clean (at_design constraints loaded ms spell c is made-is) = absurd (no_either (unelaborated spell.known.files is.fault) report crossing (no_unelaborated spell.known.files is.fault report crossing) is.outcome_is)
+judged_is_safe one files r report crossing made clean (with_all constraints loaded flat c t is made-is) = spelled_is_safe one files r constraints loaded flat report crossing clean c t is
 
 -- Clean is the status of a judgement without a crossing alone
 clean_end_is_safe : IsOneDesign → (files : Files) (r : Request) (outcome : Outcome) (made : List Call) (whole : Bool) → statuses.Clean ≡ status_at outcome whole → Ends (Some files) r outcome made

@@ -26,7 +26,6 @@ use Rattle.net_view.proofs.ValuesLemmas.{values_valued}
 use Rattle.run_model.specs.Machine.{APort}
 use Rattle.run_model.specs.Agrees.{Agrees, SameMeaning}
 use Rattle.run_model.specs.Netlist as machines
-use Rattle.thin_tree.specs.Identifiers.{is_word, begins_word, continues_word, is_identifier, IsIdentifier, reserved}
 use Rattle.thin_form.specs.Formula as formula
 use Rattle.thin_form.specs.Design as designs
 use Rattle.thin_form.specs.Netlist as form

@@ -1,5 +1,5 @@
 -- Serves specs/PlainNet.antt: a netlist's bits and kinds, and that its machine is the design's.
-use Rattle.std.proofs.Common.{◌≡◌, ℕ, zero, suc, ◌+◌, ◌<◌, ◌≤◌, Bool, true, false, List, [], ◌∷◌, ◌++◌, length, get_or, Option, Some, None, refl, sym, ap, subst, ◌∙◌, inl, inr, arith, length-append}
+use Rattle.std.proofs.Common.{◌≡◌, nat_lt, ℕ, zero, suc, ◌+◌, ◌<◌, ◌≤◌, Bool, true, false, List, [], ◌∷◌, ◌++◌, length, get_or, Option, Some, None, refl, sym, ap, subst, ◌∙◌, inl, inr, arith, length-append}
 use Rattle.std.specs.Prelude.{slice_get, map, not, ◌&&◌}
 use Rattle.std.specs.Option.{option_map}
 use Rattle.std.specs.List.{AllByRecursion, list_all, list_any}
@@ -26,7 +26,7 @@ use Rattle.net_view.proofs.ValuesLemmas.{values_valued}
 use Rattle.run_model.specs.Machine.{APort}
 use Rattle.run_model.specs.Agrees.{Agrees, SameMeaning}
 use Rattle.run_model.specs.Netlist as machines
-use Rattle.thin_tree.specs.Identifiers.{is_word, begins_word, continues_word, is_identifier, IsIdentifier, reserved}
+use Rattle.thin_tree.specs.Grammar.{is_ascii, IsPlain}
 use Rattle.thin_form.specs.Formula as formula
 use Rattle.thin_form.specs.Design as designs
 use Rattle.thin_form.specs.Netlist as form
@@ -67,27 +67,11 @@ same_bit a b e = cc
 
 -- ---- names
 
--- what a word goes on with is ASCII
-continues_ascii : (b : ℕ) → continues_word b ≡ true → b < 128
-unfolding continues_word begins_word
-continues_ascii b e = grind (arith, nat_tests)
-
-begins_ascii : (b : ℕ) → begins_word b ≡ true → b < 128
-unfolding begins_word
-begins_ascii b e = grind (arith, nat_tests)
-
-rest_ascii : (bs : List ℕ) → list_all continues_word bs ≡ true → IsAscii bs
-rest_ascii [] e = IsAscii-nil
-rest_ascii (b ∷ bs) e = IsAscii-cons b bs (continues_ascii b (and_true_left (continues_word b) (list_all continues_word bs) e)) (rest_ascii bs (and_true_right (continues_word b) (list_all continues_word bs) e))
-
-word_ascii : (t : List ℕ) → is_word t ≡ true → IsAscii t
-unfolding is_word
-word_ascii [] e = IsAscii-nil
-word_ascii (b ∷ bs) e = IsAscii-cons b bs (begins_ascii b (and_true_left (begins_word b) (list_all continues_word bs) e)) (rest_ascii bs (and_true_right (begins_word b) (list_all continues_word bs) e))
-
-pub identifier_ascii : (t : List ℕ) → IsIdentifier t → IsAscii t
-unfolding is_identifier
-identifier_ascii t is = word_ascii t (and_true_left (is_word t) (not (list_any (bytes_eq t) reserved)) is)
+-- names are ASCII
+pub plain_ascii : (t : List ℕ) → IsPlain t → IsAscii t
+unfolding is_ascii
+plain_ascii [] is = IsAscii-nil
+plain_ascii (b ∷ bs) is = IsAscii-cons b bs (let low = and_true_left (nat_lt b 128) (list_all (λ c. nat_lt c 128) bs) is in grind (arith, nat_tests)) (plain_ascii bs (and_true_right (nat_lt b 128) (list_all (λ c. nat_lt c 128) bs) is))
 
 -- ---- bits
 
@@ -131,7 +115,7 @@ all_there P (y ∷ xs) (suc k) x all at = all_there P xs k x all.1 at
 
 -- a bit's name is text
 pub bit_text : (net : Netlist) (b : ℕ) (x : NetBit) → IsLawful net → slice_get net.bits b ≡ Some x → IsUtf8 x.name
-bit_text net b x lawful at = IsUtf8-from_ascii x.name (identifier_ascii x.name (all_there (λ y. IsIdentifier y.name) net.bits b x lawful.identifiers at))
+bit_text net b x lawful at = IsUtf8-from_ascii x.name (plain_ascii x.name (all_there (λ y. IsPlain y.name) net.bits b x lawful.plain at))
 
 source_there : (net : Netlist) (n : ℕ) → n < length net.sources → (s : form.Entry) × (slice_get net.sources n ≡ Some s)
 source_there net n lt = entry_there net.sources n lt where

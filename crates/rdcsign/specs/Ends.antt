@@ -1,7 +1,8 @@
 -- The stages of a call, and how it ends at each.
 --     IsLoaded, IsRefusedLoad      what the load of the constraints gives
 --     IsStopped, IsUnread, IsUnparsed, SpellModules      what the sources give: a fault of expansion, of lexing or of parsing, or modules
---     IsReport, IsJudgement      what the modules and the constraints give
+--     IsUnelaborated, SpellFlat      what the modules give: a fault of elaboration, or a flat design
+--     IsReport, IsJudgement      what the flat design and the constraints give
 --     Ends, EndsCall      how the call ends, and the loads that it made
 use Rattle.std.specs.Prelude.{◌≡◌, ◌<◌, ◌≤◌, ◌⊎◌, ℕ, Bool, List, [], ◌∷◌, ◌++◌, map, length, Option, Some, None, Ok, Err, IfSome, IsSomeAnd}
 use Rattle.rdc_outside.specs.Shelf.{Files, Call, Load}
@@ -14,6 +15,10 @@ use Rattle.vlog_lex.specs.Tokens.{AreTokens, IsFault}
 use Rattle.vlog_tree.specs.declared.module.Module.{Module}
 use Rattle.vlog_parse.specs.declared.fault.ParseFault.{ParseFault}
 use Rattle.vlog_parse.specs.Begins as parse
+use Rattle.design_form.specs.declared.parts.Parts.{Parts}
+use Rattle.elab_names.specs.declared.fault.ElabFault.{ElabFault}
+use Rattle.vlog_elab.specs.Flat.{Gives}
+use Rattle.front.specs.Stages.{lib_in}
 use Rattle.thin_form.specs.Source as form
 use Rattle.thin_form.specs.Design.{Design}
 use Rattle.thin_cons.specs.Roles.{Declares}
@@ -24,7 +29,7 @@ use Rattle.rdcsign.specs.Closed.{IsClosed}
 use Rattle.rdcsign.specs.Verdict.{crosses}
 use Rattle.rdcsign.specs.Report as texts
 use Rattle.rdcsign.specs.Outcome.{Outcome, Usage, Absent, Read, Source, NotYet, Memory, Judged}
-use Rattle.rdcsign.specs.Faults.{stopped, unread, unparsed}
+use Rattle.rdcsign.specs.Faults.{stopped, unread, unparsed, unelaborated}
 use Rattle.rdcsign.specs.Lexemes.{places_of, end_of, lexemes_of}
 
 -- the file of that name has these bytes, and not too many
@@ -89,39 +94,51 @@ pub record SpellModules (told : Option Files) (r : Request) (loaded : List (List
   pub have : HaveTokens told r loaded known tokens
   pub answer : parse.IsAnswer (lexemes_of known tokens) ms
 
--- the modules say no design
-abbrev pub SayNone : List ℕ → List Module → Type 0
-SayNone top ms = (design : Design) → form.Says top ms design → ⊥
+-- the sources spell modules that give no flat design below the top, for a fault that ends the call; no module is known by its ports alone
+pub record IsUnelaborated (files : List (List ℕ)) (top : List ℕ) (ms : List Module) (outcome : Outcome) : Type 0 where
+  pub fault : ElabFault
+  pub gives : Gives (lib_in ms []) top (Err fault)
+  pub outcome_is : IsOrMemory outcome (unelaborated files fault)
 
--- the modules say a design, and the constraints give its sources no roles
-abbrev pub DeclaresNone : List ℕ → List ℕ → List Module → Type 0
-DeclaresNone top constraints ms = (design : Design) × form.Says top ms design × ((roles : List Role) → Declares design constraints roles → ⊥)
+-- the sources spell modules that give this flat design below the top
+pub record SpellFlat (told : Option Files) (r : Request) (loaded : List (List ℕ)) (flat : Parts) : Type 0 where
+  pub modules : List Module
+  pub spell : SpellModules told r loaded modules
+  pub gives : Gives (lib_in modules []) r.top (Ok flat)
 
--- the modules say this design, and the constraints give its sources these roles
-pub record IsOfForm (top constraints : List ℕ) (ms : List Module) (design : Design) (roles : List Role) : Type 0 where
-  pub design_is : form.Says top ms design
+-- the flat design is not of the form
+abbrev pub SayNone : Parts → Type 0
+SayNone flat = (design : Design) → form.Says flat design → ⊥
+
+-- the flat design says a design, and the constraints give its sources no roles
+abbrev pub DeclaresNone : List ℕ → Parts → Type 0
+DeclaresNone constraints flat = (design : Design) × form.Says flat design × ((roles : List Role) → Declares design constraints roles → ⊥)
+
+-- the flat design says this design, and the constraints give its sources these roles
+pub record IsOfForm (constraints : List ℕ) (flat : Parts) (design : Design) (roles : List Role) : Type 0 where
+  pub design_is : form.Says flat design
   pub roles_are : Declares design constraints roles
 
--- this is the report on the modules and the constraints, and whether an edge crosses
-pub record IsReport (top constraints : List ℕ) (ms : List Module) (report : List ℕ) (crossing : Bool) : Type 0 where
+-- this is the report on the flat design and the constraints, and whether an edge crosses
+pub record IsReport (top constraints : List ℕ) (flat : Parts) (report : List ℕ) (crossing : Bool) : Type 0 where
   pub design : Design
   pub roles : List Role
-  pub of_form : IsOfForm top constraints ms design roles
+  pub of_form : IsOfForm constraints flat design roles
   pub closed : IsClosed design
   pub text : report ≡ texts.report top design roles
   pub verdict : crossing ≡ crosses design roles
 
--- the modules and the constraints end the call so: the modules are looked at first, and named by the first file of source
-abbrev pub IsJudgement : Request → List ℕ → List Module → Outcome → Type 0
-IsJudgement r constraints ms (NotYet n) = (n ≡ first_of r.files) × SayNone r.top ms ⊎ (n ≡ r.constraints) × DeclaresNone r.top constraints ms
-IsJudgement r constraints ms (Judged report crossing) = IsReport r.top constraints ms report crossing
-IsJudgement r constraints ms Memory = Unit {0}
-IsJudgement r constraints ms Usage = ⊥
-IsJudgement r constraints ms (Absent n) = ⊥
-IsJudgement r constraints ms (Read n) = ⊥
-IsJudgement r constraints ms (Source details) = ⊥
+-- the flat design and the constraints end the call so: the design is looked at first, and named by the first file of source
+abbrev pub IsJudgement : Request → List ℕ → Parts → Outcome → Type 0
+IsJudgement r constraints flat (NotYet n) = (n ≡ first_of r.files) × SayNone flat ⊎ (n ≡ r.constraints) × DeclaresNone constraints flat
+IsJudgement r constraints flat (Judged report crossing) = IsReport r.top constraints flat report crossing
+IsJudgement r constraints flat Memory = Unit {0}
+IsJudgement r constraints flat Usage = ⊥
+IsJudgement r constraints flat (Absent n) = ⊥
+IsJudgement r constraints flat (Read n) = ⊥
+IsJudgement r constraints flat (Source details) = ⊥
 
--- how a request ends, and the loads that it made: at the constraints, at the expansion of the sources, at its tokens, at their modules, or with all in hand
+-- how a request ends, and the loads that it made: at the constraints, at the expansion of the sources, at its tokens, at their modules, at the design of these, or with all in hand
 pub data Ends (told : Option Files) (r : Request) (outcome : Outcome) (made : List Call) : Type 0 where
   at_constraints : IsRefusedLoad told r.constraints outcome → made ≡ load_unless_memory r.constraints outcome → Ends told r outcome made
   at_sources : (constraints : List ℕ) (loaded : List (List ℕ)) → IsLoaded told r.constraints constraints → IsStopped told r loaded outcome
@@ -130,7 +147,9 @@ pub data Ends (told : Option Files) (r : Request) (outcome : Outcome) (made : Li
       → made ≡ loads_of (r.constraints ∷ loaded) → Ends told r outcome made
   at_modules : (constraints : List ℕ) (loaded : List (List ℕ)) (known : State) (tokens : List Token) → IsLoaded told r.constraints constraints → HaveTokens told r loaded known tokens → IsUnparsed known tokens outcome
       → made ≡ loads_of (r.constraints ∷ loaded) → Ends told r outcome made
-  with_all : (constraints : List ℕ) (loaded : List (List ℕ)) (ms : List Module) → IsLoaded told r.constraints constraints → SpellModules told r loaded ms → IsJudgement r constraints ms outcome
+  at_design : (constraints : List ℕ) (loaded : List (List ℕ)) (ms : List Module) (spell : SpellModules told r loaded ms) → IsLoaded told r.constraints constraints → IsUnelaborated spell.known.files r.top ms outcome
+      → made ≡ loads_of (r.constraints ∷ loaded) → Ends told r outcome made
+  with_all : (constraints : List ℕ) (loaded : List (List ℕ)) (flat : Parts) → IsLoaded told r.constraints constraints → SpellFlat told r loaded flat → IsJudgement r constraints flat outcome
       → made ≡ loads_of (r.constraints ∷ loaded) → Ends told r outcome made
 
 -- the same of a request that may be none

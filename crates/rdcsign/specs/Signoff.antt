@@ -11,13 +11,14 @@ use Rattle.vlog_pre.specs.Known.{State}
 use Rattle.vlog_pre.specs.Expansion.{Expands, first_state, first_items}
 use Rattle.vlog_lex.specs.declared.tokens.Token.{Token}
 use Rattle.vlog_tree.specs.declared.module.Module.{Module}
+use Rattle.design_form.specs.declared.parts.Parts.{Parts}
 use Rattle.thin_form.specs.Design.{Design}
 use Rattle.thin_cons.specs.declared.role.Role.{Role}
 use Rattle.rdcsign.specs.declared.loading.TheConstants.{MOST}
 use Rattle.rdcsign.specs.Request.{Request, request_of}
 use Rattle.rdcsign.specs.Verdict.{crosses}
 use Rattle.rdcsign.specs.Outcome.{Outcome, Source, Says}
-use Rattle.rdcsign.specs.Ends.{IsLoaded, IsStopped, ExpandTo, IsUnread, HaveTokens, IsUnparsed, SpellModules, SayNone, DeclaresNone, IsOfForm, EndsCall}
+use Rattle.rdcsign.specs.Ends.{IsLoaded, IsStopped, ExpandTo, IsUnread, HaveTokens, IsUnparsed, SpellModules, IsUnelaborated, SpellFlat, SayNone, DeclaresNone, IsOfForm, EndsCall}
 use Rattle.rdcsign.specs.Loads.{with_loads}
 
 -- a call: how it ends, with its loads in order, and what it leaves on the sink
@@ -36,18 +37,18 @@ IsThere files name = IsSomeAnd (files name) (λ bytes. length bytes ≤ MOST)
 abbrev pub IsTooBig : Files → List ℕ → Type 0
 IsTooBig files name = IsSomeAnd (files name) (λ bytes. MOST < length bytes)
 
--- the constraints are there and not too big, and the sources spell modules
+-- the constraints are there and not too big, and the sources spell a flat design
 pub record AreRead (files : Files) (r : Request) : Type 0 where
   pub constraints : List ℕ
   pub loaded : List (List ℕ)
-  pub modules : List Module
+  pub flat : Parts
   pub has_constraints : IsLoaded (Some files) r.constraints constraints
-  pub spell : SpellModules (Some files) r loaded modules
+  pub spell : SpellFlat (Some files) r loaded flat
 
 -- the files of the request spell this design, and give its sources these roles
 pub record Spell (files : Files) (r : Request) (design : Design) (roles : List Role) : Type 0 where
   pub are_read : AreRead files r
-  pub of_form : IsOfForm r.top are_read.constraints are_read.modules design roles
+  pub of_form : IsOfForm are_read.constraints are_read.flat design roles
 
 -- the files of the request spell a design in which an edge crosses, or none does
 pub record IsJudgedAs (crossing : Bool) (files : Files) (r : Request) : Type 0 where
@@ -61,20 +62,21 @@ abbrev pub IsMissing : Files → Request → Type 0
 IsMissing files r = (files r.constraints ≡ None)
     ⊎ IsThere files r.constraints × ((name : List ℕ) × (loaded : List (List ℕ)) × Expands (Some files) first_state (first_items r.files) loaded (Err (Absent name)))
 
--- the sources have a fault of expansion, of lexing or of parsing, of which this is said
+-- the sources have a fault of expansion, of lexing, of parsing or of elaboration, of which this is said
 abbrev pub IsFaultySource : Files → Request → List ℕ → Type 0
 IsFaultySource files r details = (loaded : List (List ℕ)) × (IsStopped (Some files) r loaded (Source details)
     ⊎ (((known : State) × ExpandTo (Some files) r loaded known × IsUnread known (Source details))
-    ⊎ ((known : State) × (tokens : List Token) × HaveTokens (Some files) r loaded known tokens × IsUnparsed known tokens (Source details))))
+    ⊎ (((known : State) × (tokens : List Token) × HaveTokens (Some files) r loaded known tokens × IsUnparsed known tokens (Source details))
+    ⊎ ((modules : List Module) × (spell : SpellModules (Some files) r loaded modules) × IsUnelaborated spell.known.files r.top modules (Source details)))))
 
 -- the constraints are there and not too big, and the source is faulty
 abbrev pub IsFaulty : Files → Request → Type 0
 IsFaulty files r = IsThere files r.constraints × ((details : List ℕ) × IsFaultySource files r details)
 
--- the constraints are there, and the sources' modules say no design or the constraints give it no roles
+-- the constraints are there, and the sources' flat design is not of the form or the constraints give it no roles
 pub record IsUnformed (files : Files) (r : Request) : Type 0 where
   pub are_read : AreRead files r
-  pub unformed : SayNone r.top are_read.modules ⊎ DeclaresNone r.top are_read.constraints are_read.modules
+  pub unformed : SayNone are_read.flat ⊎ DeclaresNone are_read.constraints are_read.flat
 
 -- when each status comes for a request over told files; no file says when memory or the outside fails
 abbrev pub IsCauseFor : Files → Request → Status → Type 0

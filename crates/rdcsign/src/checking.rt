@@ -1,6 +1,6 @@
 //! The work of a request: its files, and the judgement on what they say.
 
-ghost use Rattle.std.specs.Prelude.{◌≡◌, ◌<◌, ◌+◌, ℕ, length, IfOk, IfErr};
+ghost use Rattle.std.specs.Prelude.{◌≡◌, ◌+◌, ℕ, length, IfOk, IfErr};
 ghost use Rattle.thin_form.specs.Source.{Says, IsSmall};
 ghost use Rattle.thin_form.specs.Netlist.{design_of};
 ghost use Rattle.thin_cons.specs.Roles.{Declares};
@@ -11,32 +11,31 @@ ghost use Rattle.rdcsign.specs.Ends.{IsJudgement};
 ghost use Rattle.rdcsign.specs.Loads.{CountsRefusal};
 ghost use Rattle.rdcsign.specs.Answers.{outcome_of, IsNoDesign, AreNoRoles, EndsText, EndsListed, EndsWords};
 
-use crate::faults::{stopped, unparsed, unread};
+use crate::faults::{faulty, stopped};
 use crate::loading::load_file;
 use crate::refusal::Refusal;
 use crate::report::{Judgement, judge};
 use crate::request::{Request, first_of, read_words};
+use design_form::Design;
+use front::front;
 use rdc_outside::{Shelf, Text};
 use std::alloc::Global;
 use thin_cons::{ConsFault, Roles, declare};
 use thin_form::{FormFault, Netlist};
-use vlog_lex::lex;
-use vlog_parse::parse;
 use vlog_pre::expand;
-use vlog_tree::Module;
 
-/// The design that the modules say.
+/// The design that the flat design says.
 fn read_design<'a, 'b>(
     alloc: Global,
     request: &Request<'a>,
-    modules: &'b [Module],
+    flat: &'b Design,
 ) -> Result<Netlist<'b>, Refusal<'a>>
-    requires { IsSmall modules.now }
-    ensures design { IfOk result (λ d. Says request.now.top.now modules.now (design_of d)) }
+    requires { IsSmall flat.now }
+    ensures design { IfOk result (λ d. Says flat.now (design_of d)) }
     ensures closed { IfOk result (λ d. IsClosed (design_of d)) }
-    ensures refused { IfErr result (λ r. IsNoDesign (seen request.now) modules.now (refused r)) }
+    ensures refused { IfErr result (λ r. IsNoDesign (seen request.now) flat.now (refused r)) }
 {
-    match thin_form::read(alloc, request.top.as_bytes(), modules) {
+    match thin_form::read(alloc, flat) {
         Ok(design) => {
             let _sources = design.sources();
             Ok(design)
@@ -64,17 +63,17 @@ fn read_roles<'a>(
     }
 }
 
-/// The judgement on the modules and the constraints. The modules are looked at first.
-fn judge_modules<'a>(
+/// The judgement on the flat design and the constraints. The design is looked at first.
+fn judge_flat<'a>(
     alloc: Global,
     request: &Request<'a>,
     constraints: &[u8],
-    modules: &[Module],
+    flat: &Design,
 ) -> Result<Judgement, Refusal<'a>>
-    requires { IsSmall modules.now }
-    ensures { IsJudgement (seen request.now) constraints.now modules.now (outcome_of result) }
+    requires { IsSmall flat.now }
+    ensures { IsJudgement (seen request.now) constraints.now flat.now (outcome_of result) }
 {
-    let design = match read_design(alloc, request, modules) {
+    let design = match read_design(alloc, request, flat) {
         Ok(design) => design,
         Err(refusal) => return Err(refusal),
     };
@@ -88,26 +87,20 @@ fn judge_modules<'a>(
     }
 }
 
-/// The judgement on the expanded sources and the constraints.
+/// The judgement on the expanded sources and the constraints. No module is known by its ports alone.
 fn judge_text<'a>(
     alloc: Global,
     request: &Request<'a>,
     constraints: &[u8],
     text: &Text,
 ) -> Result<Judgement, Refusal<'a>>
-    requires placed { length text.now.places ≡ length text.now.bytes + 1 }
-    requires small { length text.now.bytes < 16777216 }
+    requires { length text.now.places ≡ length text.now.bytes + 1 }
     ensures { EndsText (seen request.now) constraints.now text.now (outcome_of result) }
 {
-    let tokens = match lex(alloc, text) {
-        Ok(tokens) => tokens,
-        Err(fault) => return Err(unread(alloc, text.files.as_slice(), fault)),
-    };
-    let modules = match parse(alloc, text, &tokens) {
-        Ok(modules) => modules,
-        Err(fault) => return Err(unparsed(alloc, text.files.as_slice(), fault)),
-    };
-    judge_modules(alloc, request, constraints, modules.as_slice())
+    match front(alloc, text, request.top, &[]) {
+        Ok(flat) => judge_flat(alloc, request, constraints, &flat),
+        Err(fault) => Err(faulty(alloc, text.files.as_slice(), fault)),
+    }
 }
 
 /// What comes of a request.

@@ -1,15 +1,18 @@
 //! What is said of a fault of the source.
 
-ghost use Rattle.std.specs.Prelude.{◌≡◌, ◌++◌, IfOk};
+ghost use Rattle.std.specs.Prelude.{◌≡◌, ◌++◌, codes, IfOk};
 ghost use Rattle.vlog_pre.specs.Known.{name_at};
 ghost use Rattle.rdcsign.specs.Request.{texts};
 ghost use Rattle.rdcsign.specs.Outcome.{refused, Source};
-ghost use Rattle.rdcsign.specs.Faults.{place_text, at_place, stopped, unread, unparsed};
+ghost use Rattle.rdcsign.specs.Faults.{place_text, at_place, stopped, unread, unparsed, unvalued, unelaborated, faulty};
 ghost use Rattle.rdcsign.specs.Ends.{IsOrMemory};
 
 use crate::refusal::{Name, Refusal};
-use rdc_outside::Place;
+use elab_names::ElabFault;
+use front::FrontFault;
+use rdc_outside::{Place, Seq};
 use std::alloc::{AllocError, Global};
+use vlog_const::ConstFault;
 use vlog_lex::LexFault;
 use vlog_parse::ParseFault;
 use vlog_pre::{PreFault, Stopped};
@@ -66,12 +69,18 @@ fn with_place<'a>(alloc: Global, word: &[u8], files: &[String], place: Place) ->
     }
 }
 
-/// Refuses the source for a macro that is used within its own replacement.
-fn with_loop<'a>(alloc: Global, name: &[u8], files: &[String], place: Place) -> Refusal<'a>
-    ensures { IsOrMemory (refused result) (stopped (texts files.now) (PreFault.MacroLoop name.now place)) }
+/// Refuses the source with a word, a name and a place.
+fn with_both<'a>(
+    alloc: Global,
+    word: &[u8],
+    name: &[u8],
+    files: &[String],
+    place: Place,
+) -> Refusal<'a>
+    ensures { IsOrMemory (refused result) (Source (word.now ++ (name.now ++ (codes " " ++ place_text (texts files.now) place)))) }
 {
     match joined(alloc, name, b" ") {
-        Ok(named) => match joined(alloc, b"macroloop ", &named) {
+        Ok(named) => match joined(alloc, word, &named) {
             Ok(word) => with_place(alloc, &word, files, place),
             Err(_) => Refusal::Memory,
         },
@@ -93,13 +102,13 @@ pub fn stopped<'a>(alloc: Global, stop: Stopped) -> Refusal<'a>
         PreFault::UnknownDirective(place) => with_place(alloc, b"unknowndirective ", files, place),
         PreFault::Unbalanced(place) => with_place(alloc, b"unbalanced ", files, place),
         PreFault::BadMacroUse(place) => with_place(alloc, b"badmacrouse ", files, place),
-        PreFault::MacroLoop(name, place) => with_loop(alloc, name.as_slice(), files, place),
+        PreFault::MacroLoop(name, place) => with_both(alloc, b"macroloop ", name.as_slice(), files, place),
         PreFault::TooDeep(place) => with_place(alloc, b"toodeep ", files, place),
     }
 }
 
 /// The refusal of a text that has no tokens.
-pub fn unread<'a>(alloc: Global, files: &[String], fault: LexFault) -> Refusal<'a>
+fn unread<'a>(alloc: Global, files: &[String], fault: LexFault) -> Refusal<'a>
     ensures { IsOrMemory (refused result) (unread (texts files.now) fault) }
 {
     match fault {
@@ -111,27 +120,79 @@ pub fn unread<'a>(alloc: Global, files: &[String], fault: LexFault) -> Refusal<'
     }
 }
 
-/// Refuses the source for a token that this profile leaves out.
-fn with_token<'a>(alloc: Global, word: &[u8], files: &[String], place: Place) -> Refusal<'a>
-    ensures { IsOrMemory (refused result) (unparsed (texts files.now) (ParseFault.Unsupported word.now place)) }
-{
-    match joined(alloc, word, b" ") {
-        Ok(named) => match joined(alloc, b"unsupported ", &named) {
-            Ok(word) => with_place(alloc, &word, files, place),
-            Err(_) => Refusal::Memory,
-        },
-        Err(_) => Refusal::Memory,
-    }
-}
-
 /// The refusal of tokens that spell no modules.
-pub fn unparsed<'a>(alloc: Global, files: &[String], fault: ParseFault) -> Refusal<'a>
+fn unparsed<'a>(alloc: Global, files: &[String], fault: ParseFault) -> Refusal<'a>
     ensures { IsOrMemory (refused result) (unparsed (texts files.now) fault) }
 {
     match fault {
         ParseFault::Memory => Refusal::Memory,
-        ParseFault::Unsupported(word, place) => with_token(alloc, word.as_slice(), files, place),
+        ParseFault::Unsupported(word, place) => with_both(alloc, b"unsupported ", word.as_slice(), files, place),
         ParseFault::Syntax(place) => with_place(alloc, b"syntax ", files, place),
         ParseFault::TooDeep(place) => with_place(alloc, b"toodeep ", files, place),
+    }
+}
+
+/// The refusal of a constant without a value.
+fn unvalued<'a>(alloc: Global, files: &[String], fault: ConstFault) -> Refusal<'a>
+    ensures { IsOrMemory (refused result) (unvalued (texts files.now) fault) }
+{
+    match fault {
+        ConstFault::Memory => Refusal::Memory,
+        ConstFault::NotConstant(place) => with_place(alloc, b"notconstant ", files, place),
+        ConstFault::TooWide(place) => with_place(alloc, b"toowide ", files, place),
+        ConstFault::ZeroDivisor(place) => with_place(alloc, b"zerodivisor ", files, place),
+    }
+}
+
+/// The refusal of a module that is not there, where it is instantiated; the top stands nowhere.
+fn without_module<'a>(
+    alloc: Global,
+    files: &[String],
+    name: &[u8],
+    place: Option<Place>,
+) -> Refusal<'a>
+    ensures { IsOrMemory (refused result) (unelaborated (texts files.now) (ElabFault.NoModule name.now place)) }
+{
+    match place {
+        None => with_name(alloc, b"nomodule ", name),
+        Some(place) => with_both(alloc, b"nomodule ", name, files, place),
+    }
+}
+
+/// The refusal of modules that give no flat design.
+fn unelaborated<'a>(alloc: Global, files: &[String], fault: ElabFault) -> Refusal<'a>
+    ensures { IsOrMemory (refused result) (unelaborated (texts files.now) fault) }
+{
+    match fault {
+        ElabFault::Memory => Refusal::Memory,
+        ElabFault::NoModule(name, at) => without_module(alloc, files, name.as_slice(), at),
+        ElabFault::TwoModules(name, at) => with_both(alloc, b"twomodules ", name.as_slice(), files, at),
+        ElabFault::NoPort(name, at) => with_both(alloc, b"noport ", name.as_slice(), files, at),
+        ElabFault::PortCount(at) => with_place(alloc, b"portcount ", files, at),
+        ElabFault::Undeclared(name, at) => with_both(alloc, b"undeclared ", name.as_slice(), files, at),
+        ElabFault::TwiceDeclared(name, at) => with_both(alloc, b"twicedeclared ", name.as_slice(), files, at),
+        ElabFault::NotAssignable(at) => with_place(alloc, b"notassignable ", files, at),
+        ElabFault::Recursion(name, at) => with_both(alloc, b"recursion ", name.as_slice(), files, at),
+        ElabFault::HierLimit(at) => with_place(alloc, b"hierlimit ", files, at),
+        ElabFault::BadRange(at) => with_place(alloc, b"badrange ", files, at),
+        ElabFault::WidthLimit(at) => with_place(alloc, b"widthlimit ", files, at),
+        ElabFault::GenerateLimit(at) => with_place(alloc, b"generatelimit ", files, at),
+        ElabFault::Const(fault) => unvalued(alloc, files, fault),
+        ElabFault::Undriven(name, at) => with_both(alloc, b"undriven ", name.as_slice(), files, at),
+        ElabFault::TwiceDriven(name, at) => with_both(alloc, b"twicedriven ", name.as_slice(), files, at),
+        ElabFault::Heavy(at) => with_place(alloc, b"heavy ", files, at),
+        ElabFault::NotBuilt(at) => with_place(alloc, b"notbuilt ", files, at),
+    }
+}
+
+/// The refusal of a text that gives no flat design.
+pub fn faulty<'a>(alloc: Global, files: &[String], fault: FrontFault) -> Refusal<'a>
+    ensures { IsOrMemory (refused result) (faulty (texts files.now) fault) }
+{
+    match fault {
+        FrontFault::Memory => Refusal::Memory,
+        FrontFault::Lex(fault) => unread(alloc, files, fault),
+        FrontFault::Parse(fault) => unparsed(alloc, files, fault),
+        FrontFault::Elab(fault) => unelaborated(alloc, files, fault),
     }
 }

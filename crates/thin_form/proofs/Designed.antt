@@ -10,12 +10,11 @@ use Rattle.std.proofs.lemmas.Simd.{map-map}
 use Rattle.thin_tree.specs.declared.tree.Class.TheVariants.{Input, Net, Register}
 use Rattle.thin_tree.specs.Tree as tree
 use Rattle.thin_tree.specs.Tree.{Declared, Assignment, Process, Module, Name, Expr}
-use Rattle.thin_tree.specs.Grammar.{declared}
 use Rattle.thin_form.specs.Formula.{Formula}
 use Rattle.thin_form.specs.Design as designs
 use Rattle.thin_form.specs.Design.{Design, IsAscending, names}
 use Rattle.thin_form.specs.Meaning.{place, value_for, process_for, IsFormulaOf, IsFlopOf, IsKindOf, IsDesignOf}
-use Rattle.thin_form.specs.Rules.{names_of, cleared, processes, assignments, is_a, is_among, is_declared, class_eq}
+use Rattle.thin_form.specs.Rules.{declared, names_of, cleared, processes, assignments, is_a, is_among, is_declared, class_eq}
 use Rattle.thin_form.specs.Order.{of_class, no_wires}
 use Rattle.thin_form.specs.Numbers.{Lists, flop_of}
 use Rattle.thin_form.specs.Resolved.{lists_of}

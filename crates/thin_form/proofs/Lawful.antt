@@ -4,7 +4,7 @@ use Rattle.std.specs.List.{AllByRecursion}
 use Rattle.std.proofs.lemmas.Bool.{cases_lt}
 use Rattle.std.proofs.lemmas.List.{length-map, get_or-map, get_or_past, length-append}
 use Rattle.thin_tree.specs.declared.tree.Class.TheVariants.{Input, Net, Register}
-use Rattle.thin_tree.specs.Identifiers.{IsIdentifier}
+use Rattle.thin_tree.specs.Grammar.{IsPlain}
 use Rattle.thin_tree.specs.Tree.{Declared, Assignment, Process}
 use Rattle.thin_form.specs.Design.{IsAscending}
 use Rattle.thin_form.specs.Meaning.{place}
@@ -109,7 +109,7 @@ module _ (ds : List Declared) (ps : List Process) (assigns : List Assignment) (n
       trivially [] = tt
       trivially (e ∷ es) = ((λ h. tt), trivially es)
 
-  pub lawful : AreNodes (length (no_wires ds)) net.nodes → length net.nodes < 2 ^ 32 → length ds < 2 ^ 32 → AllByRecursion IsIdentifier (names_of ds) → IsLawful net
+  pub lawful : AreNodes (length (no_wires ds)) net.nodes → length net.nodes < 2 ^ 32 → length ds < 2 ^ 32 → AllByRecursion IsPlain (names_of ds) → IsLawful net
   lawful nodes few few_names named = record {
     few = few;
     few_sources = omega (arith, source_count, fewer_names (λ d. not (class_eq Net d.class)) ds);
@@ -117,7 +117,7 @@ module _ (ds : List Declared) (ps : List Process) (assigns : List Assignment) (n
     nodes = subst (λ (n : ℕ). AreNodes n net.nodes) (sym source_count) nodes;
     ascending = subst IsAscending (sym source_names) (ascending_filter (λ d. not (class_eq Net d.class)) ds up);
     bits_ascend = subst IsAscending (sym all_bit_names) up;
-    identifiers = all_map IsIdentifier (λ (b : NetBit). b.name) net.bits (subst (AllByRecursion IsIdentifier) (sym all_bit_names) named);
+    plain = all_map IsPlain (λ (b : NetBit). b.name) net.bits (subst (AllByRecursion IsPlain) (sym all_bit_names) named);
     within =
         subst (AllByRecursion (λ b. b.node < length net.nodes)) (sym is.bits_are)
         (each_bit (λ b. b.node < length net.nodes) (of_class Net ds) is.wires (length (no_wires ds))

@@ -9,17 +9,15 @@ use Rattle.std.proofs.lemmas.List.Sums.{sum_by-cons}
 use Rattle.std.proofs.lemmas.List.Sorted.{All-permutation, IsPermutation-sym, IsPermutation-trans, IsPermutation-map, IsPermutation-append, length_permutation, sum_by-IsPermutation}
 use Rattle.thin_tree.specs.declared.tree.Class.{Class}
 use Rattle.thin_tree.specs.declared.tree.Class.TheVariants.{Input, Net, Register}
-use Rattle.thin_tree.specs.Tree as tree
-use Rattle.thin_tree.specs.Tree.{Declared, Assignment, Process, Module, Item, Expr}
-use Rattle.thin_tree.specs.Identifiers.{IsIdentifier}
+use Rattle.thin_tree.specs.Tree.{Declared, Assignment, Process, Module, Expr}
 use Rattle.thin_tree.specs.Postfix.{postfix}
-use Rattle.thin_tree.specs.Grammar.{declared, declared_in, names_in, size, steps_in, IsTree, IsItem}
-use Rattle.thin_form.specs.Rules.{names_of, clocks, expressions, processes, assignments, processes_in, assignments_in, is_among, is_a, is_declared, class_eq, ReadsDeclared, ReadsNone, IsProcessOf, IsAssignmentOf, IsAssignedOnce, KeepsRules, IsOfForm}
+use Rattle.thin_tree.specs.Grammar.{names_in, size, IsPlain, IsTree}
+use Rattle.thin_form.specs.Rules.{names_of, clocks, expressions, declared, processes, assignments, is_among, is_a, is_declared, class_eq, ReadsDeclared, ReadsNone, IsProcessOf, IsAssignmentOf, IsAssignedOnce, KeepsRules, IsOfForm}
 use Rattle.thin_form.specs.Order.{IsOrderOf}
 use Rattle.thin_form.proofs.Naming.{distinct_names}
 use Rattle.thin_form.proofs.Orders.{distinct_moved}
 use Rattle.thin_form.proofs.Sorting.{any_kept}
-use Rattle.thin_form.proofs.Sound.{map_back, all_append}
+use Rattle.thin_form.proofs.Sound.{map_back}
 use Rattle.thin_form.proofs.Netting.{map_every}
 
 -- what holds of each, in another order
@@ -70,38 +68,22 @@ module _ (es ds : List Declared) (moved : IsPermutation es ds) where
 
 module _ (m : Module) (ds : List Declared) (ps : List Process) (assigns : List Assignment) (order : IsOrderOf (declared m) ds) (same_ps : IsPermutation (processes m) ps) (same : IsPermutation (assignments m) assigns) where
   -- the rules in name order are those of the form
-  pub form_is : (top : List ℕ) → m.name ≡ top → KeepsRules ds ps assigns → IsOfForm top m
-  form_is top e rules = record {
-    named = e;
+  pub form_is : KeepsRules ds ps assigns → IsOfForm m
+  form_is rules = record {
     declared_once = distinct_moved (λ (d : Declared). d.name) ds (declared m) (IsPermutation-sym (declared m) ds order.same) (distinct_names (names_of ds) order.ascending);
     rules = rules_moved ds (declared m) (IsPermutation-sym (declared m) ds order.same) ps (processes m) assigns (assignments m) (IsPermutation-sym (processes m) ps same_ps) (IsPermutation-sym (assignments m) assigns same) rules;
   }
 
-  pub form_keeps : (top : List ℕ) → IsOfForm top m → KeepsRules ds ps assigns
-  form_keeps top form = rules_moved (declared m) ds order.same (processes m) ps (assignments m) assigns same_ps same form.rules
+  pub form_keeps : IsOfForm m → KeepsRules ds ps assigns
+  form_keeps form = rules_moved (declared m) ds order.same (processes m) ps (assignments m) assigns same_ps same form.rules
 
--- ---- sizes and identifiers
-
-steps_are : (items : List Item) → steps_in items ≡ sum_by (λ a. length (postfix a.value)) (assignments_in items) + sum_by (λ p. length (postfix p.data)) (processes_in items)
-steps_are [] = refl
-steps_are (tree.Wire n ∷ items) = omega (arith, steps_are items)
-steps_are (tree.Reg n ∷ items) = omega (arith, steps_are items)
-steps_are (tree.Assign a ∷ items) = omega (arith, steps_are items, sum_by-cons (λ (x : Assignment). length (postfix x.value)) a (assignments_in items))
-steps_are (tree.Always p ∷ items) = omega (arith, steps_are items, sum_by-cons (λ (x : Process). length (postfix x.data)) p (processes_in items))
+-- ---- sizes and names
 
 pub size_is : (m : Module) (ds : List Declared) (ps : List Process) (assigns : List Assignment) → IsPermutation (declared m) ds → IsPermutation (processes m) ps → IsPermutation (assignments m) assigns
     → size m ≡ length ds + (sum_by (λ a. length (postfix a.value)) assigns + sum_by (λ p. length (postfix p.data)) ps)
 size_is m ds ps assigns same same_ps same_assigns =
-    omega (arith, length_permutation (declared m) ds same, steps_are m.items, sum_by-IsPermutation (λ (a : Assignment). length (postfix a.value)) (assignments m) assigns same_assigns, sum_by-IsPermutation (λ (p : Process). length (postfix p.data)) (processes m) ps same_ps)
+    omega (arith, length_permutation (declared m) ds same, sum_by-IsPermutation (λ (a : Assignment). length (postfix a.value)) (assignments m) assigns same_assigns, sum_by-IsPermutation (λ (p : Process). length (postfix p.data)) (processes m) ps same_ps)
 
-items_named : (items : List Item) → AllByRecursion IsItem items → AllByRecursion (λ d. IsIdentifier d.name) (declared_in items)
-items_named [] all = tt
-items_named (tree.Wire n ∷ items) all = (all.0, items_named items all.1)
-items_named (tree.Reg n ∷ items) all = (all.0, items_named items all.1)
-items_named (tree.Assign a ∷ items) all = items_named items all.1
-items_named (tree.Always p ∷ items) all = items_named items all.1
-
--- declared names are identifiers, in every order
-pub identifiers_are : (m : Module) (ds : List Declared) → IsTree m → IsPermutation (declared m) ds → AllByRecursion IsIdentifier (names_of ds)
-identifiers_are m ds is moved =
-    map_back IsIdentifier (λ (d : Declared). d.name) ds (every_moved (λ d. IsIdentifier d.name) (declared m) ds moved (all_append (λ d. IsIdentifier d.name) m.ports (declared_in m.items) is.ports (items_named m.items is.items)))
+-- declared names are ASCII, in every order
+pub plain_are : (m : Module) (ds : List Declared) → IsTree m → IsPermutation (declared m) ds → AllByRecursion IsPlain (names_of ds)
+plain_are m ds is moved = map_back IsPlain (λ (d : Declared). d.name) ds (every_moved (λ d. IsPlain d.name) (declared m) ds moved is)

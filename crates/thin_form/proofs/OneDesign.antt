@@ -9,6 +9,6 @@ pub same_tree : (a b : Module) → Some a ≡ Some b → a ≡ b
 same_tree a b same = cc
 
 pub one_design_is : IsOneDesign
-one_design_is top ms a b x y =
+one_design_is flat a b x y =
     let same = same_tree x.tree y.tree (sym x.said ∙ y.said) in
     one_meaning y.tree a b (subst (λ (m : Module). IsDesignOf m a) same x.design) y.design

@@ -8,8 +8,7 @@ use Rattle.std.specs.List.{AllByRecursion}
 use Rattle.std.specs.Str.{bytes_eq}
 use Rattle.thin_tree.specs.Tree as tree
 use Rattle.thin_tree.specs.declared.tree.Class.TheVariants.{Net}
-use Rattle.thin_tree.specs.Grammar.{declared}
-use Rattle.thin_form.specs.Rules.{processes, assignments, is_a, is_declared, is_among}
+use Rattle.thin_form.specs.Rules.{declared, processes, assignments, is_a, is_declared, is_among}
 use Rattle.thin_form.specs.Formula as formula
 use Rattle.thin_form.specs.Design.{Flop, Kind, Input, Register, Design, IsAscending, names}
 

@@ -6,7 +6,7 @@
 --     IsNumberOf, FindsBit        sources and bits by name
 use Rattle.std.specs.Prelude.{◌≡◌, ◌≢◌, ℕ, zero, suc, ◌+◌, ◌<◌, ◌^◌, Bool, false, List, [], ◌∷◌, ◌++◌, map, filter, length, slice_index_or, slice_get, Option, Some, None}
 use Rattle.std.specs.List.{AllByRecursion}
-use Rattle.thin_tree.specs.Identifiers.{IsIdentifier}
+use Rattle.thin_tree.specs.Grammar.{IsPlain}
 use Rattle.thin_form.specs.Formula as formula
 use Rattle.thin_form.specs.Design as designs
 use Rattle.thin_form.specs.Design.{Design, IsAscending}
@@ -133,7 +133,7 @@ pub record IsLawful (net : Netlist) : Type 0 where
   pub nodes : AreNodes (length net.sources) net.nodes
   pub ascending : IsAscending (map (λ s. s.name) net.sources)
   pub bits_ascend : IsAscending (map (λ b. b.name) net.bits)
-  pub identifiers : AllByRecursion (λ b. IsIdentifier b.name) net.bits
+  pub plain : AllByRecursion (λ b. IsPlain b.name) net.bits
   pub within : AllByRecursion (λ b. b.node < length net.nodes) net.bits
   pub source_bits : (n : ℕ) (s : Entry) → slice_get net.sources n ≡ Some s → IsBitOf net.bits n s
   pub flops : (n : ℕ) (f : Flop) → kind_at net n ≡ Register f → IsFlopIn net f

@@ -1,41 +1,29 @@
 -- The rules on the names of a module of the form.
---     processes m, assignments m, names_of ds, cleared ps, targets assigns, clocks ps      what a module lists
+--     declared m, processes m, assignments m, names_of ds, cleared ps, targets assigns, clocks ps      what a module lists
 --     is_among name names, is_declared ds name, is_a class ds name      what a name is
 --     IsProcessOf ds p, IsAssignmentOf ds a      each keeps the rules of its own
 --     IsForward assigns, HasNoCycle assigns      the assignments read each other in one direction
---     IsOfForm top m      the module keeps all rules
+--     IsOfForm m      the module keeps all rules
 use Rattle.std.specs.Prelude.{◌≡◌, ℕ, Bool, true, false, ◌&&◌, IsTrue, List, [], ◌∷◌, ◌++◌, map}
 use Rattle.std.specs.List.{AllByRecursion, IsDistinct, list_any}
 use Rattle.std.specs.List.Sorted.{IsPermutation}
 use Rattle.std.specs.Str.{bytes_eq}
 use Rattle.thin_tree.specs.declared.tree.Class.{Class}
 use Rattle.thin_tree.specs.declared.tree.Class.TheVariants.{Input, Net, Register}
-use Rattle.thin_tree.specs.Tree.{Expr, Declared, Assignment, Process, Item, Wire, Reg, Assign, Always, Module}
-use Rattle.thin_tree.specs.Grammar.{declared, names_in}
+use Rattle.thin_tree.specs.Tree.{Expr, Declared, Assignment, Process, Module}
+use Rattle.thin_tree.specs.Grammar.{names_in}
 
--- the processes, in the order of the text
-abbrev pub processes_in : List Item → List Process
-processes_in [] = []
-processes_in (Wire name ∷ items) = processes_in items
-processes_in (Reg name ∷ items) = processes_in items
-processes_in (Assign a ∷ items) = processes_in items
-processes_in (Always p ∷ items) = p ∷ processes_in items
-
--- the assignments, in the order of the text
-abbrev pub assignments_in : List Item → List Assignment
-assignments_in [] = []
-assignments_in (Wire name ∷ items) = assignments_in items
-assignments_in (Reg name ∷ items) = assignments_in items
-assignments_in (Assign a ∷ items) = a ∷ assignments_in items
-assignments_in (Always p ∷ items) = assignments_in items
+-- what is declared
+abbrev pub declared : Module → List Declared
+declared m = m.declared
 
 -- the processes of a module
 abbrev pub processes : Module → List Process
-processes m = processes_in m.items
+processes m = m.processes
 
 -- the assignments of a module
 abbrev pub assignments : Module → List Assignment
-assignments m = assignments_in m.items
+assignments m = m.assignments
 
 -- the names that are declared
 abbrev pub names_of : List Declared → List (List ℕ)
@@ -80,10 +68,6 @@ class_eq Register Register = true
 -- the name is declared as one of this class
 abbrev pub is_a : Class → List Declared → List ℕ → Bool
 is_a class ds name = list_any (λ d. bytes_eq name d.name && class_eq class d.class) ds
-
--- the module has the name that is asked for
-abbrev pub IsNamed : List ℕ → Module → Type 0
-IsNamed top m = m.name ≡ top
 
 -- each name is declared once
 abbrev pub IsDeclaredOnce : List Declared → Type 0
@@ -155,7 +139,6 @@ pub record KeepsRules (ds : List Declared) (ps : List Process) (assigns : List A
   pub acyclic : HasNoCycle assigns
 
 -- the module keeps all rules
-pub record IsOfForm (top : List ℕ) (m : Module) : Type 0 where
-  pub named : IsNamed top m
+pub record IsOfForm (m : Module) : Type 0 where
   pub declared_once : IsDeclaredOnce (declared m)
   pub rules : KeepsRules (declared m) (processes m) (assignments m)

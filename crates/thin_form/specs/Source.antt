@@ -1,6 +1,6 @@
--- When a syntax tree says a design, and that it says at most one.
-use Rattle.std.specs.Prelude.{◌≡◌, ◌<◌, ◌^◌, ℕ, List, Some}
-use Rattle.vlog_tree.specs.declared.module.Module as source
+-- When a flat design is of the first form, and what netlist's design it says; it says at most one.
+use Rattle.std.specs.Prelude.{◌≡◌, ◌<◌, ◌^◌, Some}
+use Rattle.design_form.specs.declared.parts.Parts.{Parts}
 use Rattle.thin_tree.specs.Tree.{Module}
 use Rattle.thin_tree.specs.Form.{form_of}
 use Rattle.thin_tree.specs.Grammar.{size}
@@ -8,17 +8,17 @@ use Rattle.thin_form.specs.Rules.{IsOfForm}
 use Rattle.thin_form.specs.Design.{Design}
 use Rattle.thin_form.specs.Meaning.{IsDesignOf}
 
--- the source says a module of the form, named top, whose design this is
-pub record Says (top : List ℕ) (ms : List source.Module) (d : Design) : Type 0 where
+-- the flat design is of the form, and says this design
+pub record Says (flat : Parts) (d : Design) : Type 0 where
   pub tree : Module
-  pub said : form_of ms ≡ Some tree
-  pub is_of_form : IsOfForm top tree
+  pub said : form_of flat ≡ Some tree
+  pub is_of_form : IsOfForm tree
   pub design : IsDesignOf tree d
 
--- fewer than 2^32 names are declared and steps taken, as in every text that is shorter
-abbrev pub IsSmall : List source.Module → Type 0
-IsSmall ms = (tree : Module) → form_of ms ≡ Some tree → size tree < 2 ^ 32
+-- fewer than 2^32 names are declared and steps taken
+abbrev pub IsSmall : Parts → Type 0
+IsSmall flat = (tree : Module) → form_of flat ≡ Some tree → size tree < 2 ^ 32
 
--- a source says at most one design
+-- a flat design says at most one design
 abbrev pub IsOneDesign : Type 0
-IsOneDesign = (top : List ℕ) (ms : List source.Module) (a b : Design) → Says top ms a → Says top ms b → a ≡ b
+IsOneDesign = (flat : Parts) (a b : Design) → Says flat a → Says flat b → a ≡ b

@@ -5,12 +5,12 @@ ghost use Rattle.std.specs.List.Sorted.{IsPermutation, IsSortedByKey};
 ghost use Rattle.std.specs.Ordering.{nat_cmp};
 ghost use Rattle.std.specs.Cmp.Lexicographic.{slice_cmp};
 ghost use Rattle.thin_tree.specs.Postfix.{expression_of};
-ghost use Rattle.thin_tree.specs.Written.{all_items, texts};
-ghost use Rattle.thin_form.specs.Rules.{assignments_in, processes_in, targets, cleared};
+ghost use Rattle.thin_tree.specs.Written.{an_assignment, a_process, texts};
+ghost use Rattle.thin_form.specs.Rules.{targets, cleared};
 ghost use Rattle.thin_form.specs.Order.{all_assigns, all_processes};
 
 use std::alloc::{AllocError, Global};
-use thin_tree::{Assign, Expression, Item, Process};
+use thin_tree::{Assign, Expression, Process};
 
 /// An assignment where it stands in the tree.
 #[derive(Clone, Copy)]
@@ -30,40 +30,30 @@ pub(crate) struct Expressed<'b, 'a> {
     pub(crate) of: &'b Expression<'a>,
 }
 
-/// The assignments, in the order of the text.
+/// The assignments, in their order.
 fn listed_assigns<'b, 'a>(
     alloc: Global,
-    items: &'b [Item<'a>],
+    given: &'b [Assign<'a>],
 ) -> Result<Vec<Assigned<'b, 'a>>, AllocError>
-    ensures { IfOk result (λ v. all_assigns v.items ≡ assignments_in (all_items items.now)) }
+    ensures { IfOk result (λ v. all_assigns v.items ≡ map an_assignment given.now) }
 {
     let mut out = Vec::new(alloc);
-    for item in items {
-        match item {
-            Item::Assign(of) => out.push(Assigned { of })?,
-            Item::Wire(_) => {}
-            Item::Reg(_) => {}
-            Item::Always(_) => {}
-        }
+    for of in given {
+        out.push(Assigned { of })?;
     }
     Ok(out)
 }
 
-/// The processes, in the order of the text.
+/// The processes, in their order.
 fn listed_processes<'b, 'a>(
     alloc: Global,
-    items: &'b [Item<'a>],
+    given: &'b [Process<'a>],
 ) -> Result<Vec<Clocked<'b, 'a>>, AllocError>
-    ensures { IfOk result (λ v. all_processes v.items ≡ processes_in (all_items items.now)) }
+    ensures { IfOk result (λ v. all_processes v.items ≡ map a_process given.now) }
 {
     let mut out = Vec::new(alloc);
-    for item in items {
-        match item {
-            Item::Always(of) => out.push(Clocked { of })?,
-            Item::Wire(_) => {}
-            Item::Reg(_) => {}
-            Item::Assign(_) => {}
-        }
+    for of in given {
+        out.push(Clocked { of })?;
     }
     Ok(out)
 }
@@ -71,12 +61,12 @@ fn listed_processes<'b, 'a>(
 /// The assignments, in the order of the names that they assign.
 pub(crate) fn assigns<'b, 'a>(
     alloc: Global,
-    items: &'b [Item<'a>],
+    given: &'b [Assign<'a>],
 ) -> Result<Vec<Assigned<'b, 'a>>, AllocError>
-    ensures same { IfOk result (λ v. IsPermutation (assignments_in (all_items items.now)) (all_assigns v.items)) }
+    ensures same { IfOk result (λ v. IsPermutation (map an_assignment given.now) (all_assigns v.items)) }
     ensures sorted { IfOk result (λ v. IsSortedByKey (λ a. a.of.now.target.now) (slice_cmp nat_cmp) v.items) }
 {
-    let mut out = listed_assigns(alloc, items)?;
+    let mut out = listed_assigns(alloc, given)?;
     out.sort_by_key(|a| a.of.target)?;
     Ok(out)
 }
@@ -84,12 +74,12 @@ pub(crate) fn assigns<'b, 'a>(
 /// The processes, in the order of the names that they assign.
 pub(crate) fn processes<'b, 'a>(
     alloc: Global,
-    items: &'b [Item<'a>],
+    given: &'b [Process<'a>],
 ) -> Result<Vec<Clocked<'b, 'a>>, AllocError>
-    ensures same { IfOk result (λ v. IsPermutation (processes_in (all_items items.now)) (all_processes v.items)) }
+    ensures same { IfOk result (λ v. IsPermutation (map a_process given.now) (all_processes v.items)) }
     ensures sorted { IfOk result (λ v. IsSortedByKey (λ p. p.of.now.cleared.now) (slice_cmp nat_cmp) v.items) }
 {
-    let mut out = listed_processes(alloc, items)?;
+    let mut out = listed_processes(alloc, given)?;
     out.sort_by_key(|p| p.of.cleared)?;
     Ok(out)
 }

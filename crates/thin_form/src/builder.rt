@@ -6,8 +6,7 @@ ghost use Rattle.std.specs.List.Sorted.{IsSortedByKey};
 ghost use Rattle.std.specs.Ordering.{nat_cmp};
 ghost use Rattle.std.specs.Cmp.Lexicographic.{slice_cmp};
 ghost use Rattle.std.specs.Result.{IsErrOf};
-ghost use Rattle.thin_tree.specs.Grammar.{size, IsTree};
-ghost use Rattle.thin_tree.specs.Identifiers.{IsIdentifier};
+ghost use Rattle.thin_tree.specs.Grammar.{size, IsPlain, IsTree};
 ghost use Rattle.thin_tree.specs.Postfix.{postfix};
 ghost use Rattle.thin_tree.specs.Written.{a_module, all_declared};
 ghost use Rattle.thin_form.specs.Design.{IsAscending};
@@ -85,7 +84,7 @@ fn number<'b, 'a>(
 ) -> Result<Netlist<'a>, FormFault>
     requires few { length declared.now + sum_by (λ a. length (postfix a.value)) (all_assigns assigns.now) + sum_by (λ p. length (postfix p.data)) (all_processes processes.now) < 2 ^ 32 }
     requires ascending { IsAscending (names_of (all_declared declared.now)) }
-    requires identifiers { AllByRecursion IsIdentifier (names_of (all_declared declared.now)) }
+    requires plain { AllByRecursion IsPlain (names_of (all_declared declared.now)) }
     requires assigns_sorted { IsSortedByKey (λ a. a.of.now.target.now) (slice_cmp nat_cmp) assigns.now }
     requires processes_sorted { IsSortedByKey (λ p. p.of.now.cleared.now) (slice_cmp nat_cmp) processes.now }
     ensures rules { IfOk result (λ d. KeepsRules (all_declared declared.now) (all_processes processes.now) (all_assigns assigns.now)) }
@@ -112,25 +111,18 @@ fn number<'b, 'a>(
 }
 
 /// The design of a module, where it keeps the rules.
-pub(crate) fn build<'a>(
-    alloc: Global,
-    top: &[u8],
-    parsed: &Module<'a>,
-) -> Result<Netlist<'a>, FormFault>
+pub(crate) fn build<'a>(alloc: Global, parsed: &Module<'a>) -> Result<Netlist<'a>, FormFault>
     requires size { size (a_module parsed.now) < 2 ^ 32 }
     requires tree { IsTree (a_module parsed.now) }
-    ensures rules { IfOk result (λ d. IsOfForm top.now (a_module parsed.now)) }
+    ensures rules { IfOk result (λ d. IsOfForm (a_module parsed.now)) }
     ensures design { IfOk result (λ d. IsDesignOf (a_module parsed.now) (design_of d)) }
-    ensures not_of_form { IsErrOf result FormFault.NotOfForm → IsOfForm top.now (a_module parsed.now) → ⊥ }
+    ensures not_of_form { IsErrOf result FormFault.NotOfForm → IsOfForm (a_module parsed.now) → ⊥ }
 {
-    if parsed.name != top {
-        return Err(FormFault::NotOfForm);
-    }
     let declared = match ordered(alloc, parsed) {
         Ok(found) => found,
         Err(fault) => return Err(fault),
     };
-    let assigns = assigns(alloc, &parsed.items)?;
-    let processes = processes(alloc, &parsed.items)?;
+    let assigns = assigns(alloc, &parsed.assigns)?;
+    let processes = processes(alloc, &parsed.processes)?;
     number(alloc, &declared, &assigns, &processes)
 }

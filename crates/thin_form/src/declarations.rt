@@ -1,47 +1,20 @@
 //! What a module declares, in name order.
 
-ghost use Rattle.std.specs.Prelude.{◌≡◌, ◌++◌, not, filter, IsTrue, ◌↔◌, IfOk, OnOk};
+ghost use Rattle.std.specs.Prelude.{◌≡◌, not, filter, IsTrue, ◌↔◌, IfOk};
 ghost use Rattle.std.specs.Result.{IsErrOf};
-ghost use Rattle.thin_tree.specs.Grammar.{declared, declared_in};
-ghost use Rattle.thin_tree.specs.Written.{a_module, all_declared, all_items, texts};
+ghost use Rattle.thin_tree.specs.Written.{a_module, all_declared, texts};
 ghost use Rattle.thin_form.specs.Design.{IsAscending};
-ghost use Rattle.thin_form.specs.Rules.{class_eq, names_of, IsDeclaredOnce};
+ghost use Rattle.thin_form.specs.Rules.{class_eq, declared, names_of, IsDeclaredOnce};
 ghost use Rattle.thin_form.specs.Order.{IsOrderOf, of_class, no_wires};
 
 use std::alloc::{AllocError, Global};
-use thin_tree::{Class, Declared, FormFault, Item, Module};
+use thin_tree::{Class, Declared, FormFault, Module};
 
-/// Puts the wires and registers that are no ports at the end.
-fn push_declared<'a>(out: &mut Vec<Declared<'a>>, items: &[Item<'a>]) -> Result<(), AllocError>
-    ensures { OnOk result (all_declared out.new.items ≡ all_declared out.old.items ++ declared_in (all_items items.now)) }
-{
-    for item in items {
-        match item {
-            Item::Wire(name) => {
-                let name = *name;
-                let class = Class::Net;
-                out.push(Declared { name, class })?;
-            }
-            Item::Reg(name) => {
-                let name = *name;
-                let class = Class::Register;
-                out.push(Declared { name, class })?;
-            }
-            Item::Assign(_) => {}
-            Item::Always(_) => {}
-        }
-    }
-    Ok(())
-}
-
-/// The ports, and the wires and registers that are none.
+/// What is declared.
 fn all<'a>(alloc: Global, parsed: &Module<'a>) -> Result<Vec<Declared<'a>>, AllocError>
     ensures { IfOk result (λ v. all_declared v.items ≡ declared (a_module parsed.now)) }
 {
-    let mut out = Vec::new(alloc);
-    out.extend_from_slice(&parsed.ports)?;
-    push_declared(&mut out, &parsed.items)?;
-    Ok(out)
+    Vec::from_slice(alloc, &parsed.declared)
 }
 
 /// Each name is below the next.

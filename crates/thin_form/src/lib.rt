@@ -1,8 +1,8 @@
-//! The first form of source: one module of wires, gates and flops with asynchronous resets.
+//! The first form of source: wires, gates and flops with asynchronous resets, over any hierarchy.
 //!
-//! `read` answers the design that a text's tokens spell, and refuses exactly the tokens that spell none
-//! (`specs/Source.antt`). It takes any list of tokens, each as its bytes, and always returns.
-//! Reading Verilog: stands on `thin_tree` for the tree. The program reads its sources by it.
+//! `read` answers the design that a flat design says in the form, and refuses exactly the flat designs that are not of it
+//! (`specs/Source.antt`).
+//! Meaning: stands on `design_form` for the flat design and `thin_tree` for what it says. The program reads designs by it.
 #![tactic(auto)]
 
 mod assembly;

@@ -1,5 +1,5 @@
 pub mod Pushed
 pub mod Gathered
+pub mod TableLemmas
+pub mod Leading
 pub mod Named
-pub mod Sizes
-pub mod ItemSizes

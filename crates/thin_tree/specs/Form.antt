@@ -1,12 +1,15 @@
--- The first form of source: which trees are of it, and what they say in it. A reading is None where a tree isn't of the form.
+-- The first form of source: which flat designs are of it, and what they say in it. A reading is None where a part isn't of the form.
 --     said e                         an expression of names, brackets, `~`, `&` and `|`
---     name_of e, test_of e, bit_of e      a name; a name behind `!` or not; the number 1'b0 or 1'b1
---     port_of p                      a port with its direction, of one bit
---     step_of s, events_of c         what a process does, and at which events
---     item_of i, items_of is         items
---     form_of ms                     a source of one module
-use Rattle.std.specs.Prelude.{ℕ, Bool, true, false, not, ◌&&◌, ◌==◌, if◌then◌else◌, List, [], ◌∷◌, Option, Some, None}
-use Rattle.std.specs.Option.{option_map}
+--     test_of e, bit_of e            a name behind `!` or not; the number 1'b0 or 1'b1
+--     choice_of s, events_of c       what a process does, and at which events
+--     process_of c s                 a process of the template
+--     signal_in inputs s             a signal of one bit
+--     class_at d name                what a signal of that name is
+--     assignment_in d x, process_in d p       a driver of a wire; a process, its clock and its reset at their roots
+--     is_clock d ps name             whether a name leads to a clock
+--     form_of d                      a flat design
+use Rattle.std.specs.Prelude.{ℕ, Bool, true, false, not, ◌&&◌, ◌==◌, if◌then◌else◌, List, [], ◌∷◌, map, filter, Option, Some, None}
+use Rattle.std.specs.Option.{option_map, is_some}
 use Rattle.rdc_outside.specs.declared.source.Place.{Place}
 use Rattle.vlog_tree.specs.declared.ident.Ident.{Ident}
 use Rattle.vlog_tree.specs.declared.number.Base.{Base}
@@ -18,12 +21,6 @@ use Rattle.vlog_tree.specs.declared.operator.Binary.{Binary}
 use Rattle.vlog_tree.specs.declared.operator.Binary.TheVariants as binary
 use Rattle.vlog_tree.specs.declared.expr.Expr.{Expr, fold-Expr, out-Expr}
 use Rattle.vlog_tree.specs.declared.expr.Expr.TheOpen.{Expr-F}
-use Rattle.vlog_tree.specs.declared.port.Range.{Range}
-use Rattle.vlog_tree.specs.declared.port.Shape.{Shape}
-use Rattle.vlog_tree.specs.declared.port.Direction.{Direction}
-use Rattle.vlog_tree.specs.declared.port.Direction.TheVariants as direction
-use Rattle.vlog_tree.specs.declared.port.Port.{Port}
-use Rattle.vlog_tree.specs.declared.port.Port.TheVariants as port
 use Rattle.vlog_tree.specs.declared.stmt.Assigns.{Assigns}
 use Rattle.vlog_tree.specs.declared.stmt.Assigns.TheVariants as assigns
 use Rattle.vlog_tree.specs.declared.stmt.Stmt.{Stmt, out-Stmt}
@@ -33,13 +30,19 @@ use Rattle.vlog_tree.specs.declared.stmt.Edge.TheVariants as edge
 use Rattle.vlog_tree.specs.declared.stmt.Event.{Event}
 use Rattle.vlog_tree.specs.declared.stmt.Control.{Control}
 use Rattle.vlog_tree.specs.declared.stmt.Control.TheVariants as control
-use Rattle.vlog_tree.specs.declared.item.Net.{Net}
-use Rattle.vlog_tree.specs.declared.item.Assignment as written
-use Rattle.vlog_tree.specs.declared.item.Item as items
-use Rattle.vlog_tree.specs.declared.item.Item.{out-Item}
-use Rattle.vlog_tree.specs.declared.item.Item.TheOpen.{Item-F}
-use Rattle.vlog_tree.specs.declared.module.Module as modules
-use Rattle.thin_tree.specs.Identifiers.{is_identifier}
+use Rattle.design_form.specs.declared.signal.Signal.{Signal}
+use Rattle.design_form.specs.declared.signal.SignalKind.{SignalKind}
+use Rattle.design_form.specs.declared.signal.SignalKind.TheVariants as kinds
+use Rattle.design_form.specs.declared.parts.Side.{Side}
+use Rattle.design_form.specs.declared.parts.Side.TheVariants as sides
+use Rattle.design_form.specs.declared.parts.TopPort.{TopPort}
+use Rattle.design_form.specs.declared.parts.Driver.{Driver}
+use Rattle.design_form.specs.declared.parts.Process as flat
+use Rattle.design_form.specs.declared.parts.Parts.{Parts}
+use Rattle.design_form.specs.Signals.{is_single}
+use Rattle.design_form.specs.Numbers.{index_of, signal_of}
+use Rattle.thin_tree.specs.Copies.{name_of, copies, root}
+use Rattle.thin_tree.specs.Grammar.{is_ascii}
 use Rattle.thin_tree.specs.Tree as tree
 
 -- what f makes of a value that is there
@@ -92,14 +95,6 @@ said_by_parts e = None
 unfoldable pub said : Expr → Option tree.Expr
 said = fold-Expr (Option tree.Expr) said_by_parts
 
-unfoldable pub name_in : Expr-F Expr → Option (List ℕ)
-name_in (Expr-F.Name place name) = Some name
-name_in e = None
-
--- a name
-unfoldable pub name_of : Expr → Option (List ℕ)
-name_of e = name_in (out-Expr e)
-
 -- ! before a name
 unfoldable pub negated : Unary → Expr → Option (Bool × List ℕ)
 negated unary.Not inner = option_map (λ name. (true, name)) (name_of inner)
@@ -133,48 +128,6 @@ bit_of e = bit_in (out-Expr e)
 unfoldable pub is_absent : {A : Type 0} → Option A → Bool
 is_absent None = true
 is_absent (Some x) = false
-
--- neither `signed` nor a range
-unfoldable pub is_bare : Shape → Bool
-is_bare s = not s.signed && is_absent s.range
-
--- a name that may be declared
-unfoldable pub declared_name : Ident → Option (List ℕ)
-declared_name i = where_so (is_identifier i.name) i.name
-
-unfoldable pub class_of : Direction → tree.Class
-class_of direction.Input = tree.Input
-class_of direction.Output = tree.Net
-class_of direction.Register = tree.Register
-
--- a port with its direction, of one bit
-unfoldable pub port_of : Port → Option tree.Declared
-port_of (port.Declared d shape i) = do
-  name ← declared_name i
-  where_so (is_bare shape) (record { class = class_of d; name = name })
-port_of (port.Named i) = None
-
--- one name, declared with a bare shape
-unfoldable pub declared_one : Shape → List Ident → Option (List ℕ)
-declared_one shape (i ∷ []) = do
-  name ← declared_name i
-  where_so (is_bare shape) name
-declared_one shape is = None
-
--- one wire without a driver
-unfoldable pub wire_of : Shape → List Net → Option (List ℕ)
-wire_of shape (n ∷ []) = do
-  name ← declared_name n.name
-  where_so (is_bare shape && is_absent n.driver) name
-wire_of shape ns = None
-
--- one assignment to a name
-unfoldable pub assignment_of : List written.Assignment → Option tree.Assignment
-assignment_of (a ∷ []) = do
-  target ← name_of a.target
-  value ← said a.value
-  Some (record { target = target; value = value })
-assignment_of all = None
 
 unfoldable pub is_nonblocking : Assigns → Bool
 is_nonblocking assigns.Blocking = false
@@ -248,30 +201,102 @@ process_of c s = do
   b ← choice_of s
   Some (record { clock = e.0; falling = e.1; event = e.2; negated = b.0.0; tested = b.0.1; cleared = b.1.0; value = b.1.1; loaded = b.2.0; «data» = b.2.1 })
 
-unfoldable pub item_in : Item-F items.Item → Option tree.Item
-item_in (Item-F.Wires place shape ns) = option_map tree.Wire (wire_of shape ns)
-item_in (Item-F.Registers place shape is) = option_map tree.Reg (declared_one shape is)
-item_in (Item-F.Assign place all) = option_map tree.Assign (assignment_of all)
-item_in (Item-F.Always place c s) = option_map tree.Always (process_of c s)
-item_in i = None
+-- ---- signals
 
--- an item of the form
-unfoldable pub item_of : items.Item → Option tree.Item
-item_of i = item_in (out-Item i)
+-- whether a name is one of these
+abbrev pub is_among : List (List ℕ) → List ℕ → Bool
+is_among names name = is_some (index_of names name)
+
+unfoldable pub is_input : Side → Bool
+is_input sides.Input = true
+is_input sides.Output = false
+
+-- the names of the input ports
+abbrev pub input_names : List TopPort → List (List ℕ)
+input_names ports = map (λ p. p.name) (filter (λ p. is_input p.side) ports)
+
+unfoldable pub class_in : SignalKind → tree.Class
+class_in kinds.Register = tree.Register
+class_in k = tree.Net
+
+-- an input port of the top, a register, or a wire
+unfoldable pub class_of : List (List ℕ) → Signal → tree.Class
+class_of inputs s = if is_among inputs s.name then tree.Input else class_in s.kind
+
+-- a signal of one bit, whose name is printed without an index
+unfoldable pub signal_in : List (List ℕ) → Signal → Option tree.Declared
+signal_in inputs s = where_so (is_single s && is_ascii s.name) (record { class = class_of inputs s; name = s.name })
+
+-- what a signal of that name is
+abbrev pub class_at : Parts → List ℕ → Option tree.Class
+class_at d name = option_map (class_of (input_names d.ports)) (signal_of d.signals name)
+
+unfoldable pub is_net : tree.Class → Bool
+is_net tree.Net = true
+is_net c = false
+
+unfoldable pub is_wire : Option tree.Class → Bool
+is_wire None = false
+is_wire (Some c) = is_net c
+
+unfoldable pub is_register : Option tree.Class → Bool
+is_register (Some tree.Register) = true
+is_register c = false
+
+-- ---- drivers and processes
+
+-- a driver of a wire
+unfoldable pub assignment_in : Parts → Driver → Option tree.Assignment
+assignment_in d x = do
+  target ← name_of x.target
+  value ← said x.value
+  where_so (is_wire (class_at d target)) (record { target = target; value = value })
+
+-- the name that copies lead to
+abbrev pub root_in : Parts → List ℕ → List ℕ
+root_in d name = root (copies d.drivers) name
+
+-- a process whose clock, second event and tested name stand for what they copy
+abbrev pub rooted : Parts → tree.Process → tree.Process
+rooted d p = record {
+  clock = root_in d p.clock;
+  falling = p.falling;
+  event = root_in d p.event;
+  negated = p.negated;
+  tested = root_in d p.tested;
+  cleared = p.cleared;
+  value = p.value;
+  loaded = p.loaded;
+  «data» = p.data;
+}
+
+-- a process that loads a register
+unfoldable pub process_in : Parts → flat.Process → Option tree.Process
+process_in d x = do
+  p ← process_of x.control x.body
+  where_so (is_register (class_at d p.loaded)) (rooted d p)
+
+-- ---- the whole
+
+-- whether a name leads to the clock of a process
+unfoldable pub is_clock : Parts → List tree.Process → List ℕ → Bool
+is_clock d ps name = is_among (map (λ p. p.clock) ps) (root_in d name)
+
+-- a wire that leads to a clock is the clock itself, and left out
+unfoldable pub stays : Parts → List tree.Process → tree.Declared → Bool
+stays d ps s = not (is_net s.class && is_clock d ps s.name)
+
+abbrev pub without_clocks : Parts → List tree.Declared → List tree.Assignment → List tree.Process → tree.Module
+without_clocks d ss assigns ps = record { declared = filter (stays d ps) ss; assignments = filter (λ a. not (is_clock d ps a.target)) assigns; processes = ps }
 
 unfoldable pub is_empty : {A : Type 0} → List A → Bool
 is_empty [] = true
 is_empty (x ∷ xs) = false
 
--- a module without parameters, with a port
-unfoldable pub module_of : modules.Module → Option tree.Module
-module_of m = do
-  name ← declared_name m.name
-  ports ← all_of port_of m.ports
-  items ← all_of item_of m.items
-  where_so (is_empty m.parameters && not (is_empty ports)) (record { name = name; ports = ports; items = items })
-
--- a source of one module
-unfoldable pub form_of : List modules.Module → Option tree.Module
-form_of (m ∷ []) = module_of m
-form_of ms = None
+-- a flat design without boxes and gates
+unfoldable pub form_of : Parts → Option tree.Module
+form_of d = do
+  ss ← all_of (signal_in (input_names d.ports)) d.signals
+  assigns ← all_of (assignment_in d) d.drivers
+  ps ← all_of (process_in d) d.processes
+  where_so (is_empty d.boxes && is_empty d.gates) (without_clocks d ss assigns ps)

@@ -1,6 +1,7 @@
-pub mod Identifiers
 pub mod Tree
 pub mod Postfix
 pub mod Grammar
+pub mod Copies
 pub mod Form
 pub mod Written
+pub mod Places

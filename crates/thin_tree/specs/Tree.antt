@@ -1,4 +1,4 @@
--- The tree of a module: what its text writes, with no meaning yet. Names are their bytes.
+-- What a flat design says in the first form, with no meaning yet. Names are their bytes.
 use Rattle.std.specs.Prelude.{ℕ, Bool, List}
 pub use Rattle.thin_tree.specs.declared.tree.Class.{Class}
 pub use Rattle.thin_tree.specs.declared.tree.Class.TheVariants.{Input, Net, Register}
@@ -11,7 +11,7 @@ pub data Expr : Type 0 where
   And : Expr → Expr → Expr
   Or : Expr → Expr → Expr
 
--- a port, or a wire or register that is no port
+-- a signal
 pub record Declared : Type 0 where
   pub class : Class
   pub name : List ℕ
@@ -33,15 +33,8 @@ pub record Process : Type 0 where
   pub loaded : List ℕ
   pub «data» : Expr
 
--- wire NAME; or reg NAME; or an assignment, or a process
-pub data Item : Type 0 where
-  Wire : List ℕ → Item
-  Reg : List ℕ → Item
-  Assign : Assignment → Item
-  Always : Process → Item
-
--- module NAME(PORTS); ITEMS endmodule
+-- the signals, what is assigned to wires, and the processes
 pub record Module : Type 0 where
-  pub name : List ℕ
-  pub ports : List Declared
-  pub items : List Item
+  pub declared : List Declared
+  pub assignments : List Assignment
+  pub processes : List Process

@@ -1,19 +1,20 @@
--- The code's tokens and trees, without where their names lie in memory.
---     texts                                     tokens
+-- The code's trees, without where their names lie in memory.
+--     texts                                     names
 --     a_declared, all_declared                  what is declared
---     an_assignment, a_process, an_item, all_items, a_module      the tree
-use Rattle.std.specs.Prelude.{ℕ, List, ◌∷◌, map}
+--     an_assignment, a_process, a_module        the tree
+--     a_copy, all_copies                        copies
+use Rattle.std.specs.Prelude.{ℕ, List, map}
 use Rattle.std.specs.Borrow.{Bor}
 use Rattle.thin_tree.specs.Tree as tree
+use Rattle.thin_tree.specs.Copies as copies
 use Rattle.thin_tree.specs.Postfix.{expression_of}
 use Rattle.thin_tree.specs.declared.tree.Declared.{Declared}
 use Rattle.thin_tree.specs.declared.tree.Assign.{Assign}
 use Rattle.thin_tree.specs.declared.tree.Process.{Process}
-use Rattle.thin_tree.specs.declared.tree.Item.{Item}
-use Rattle.thin_tree.specs.declared.tree.Item.TheVariants as item
 use Rattle.thin_tree.specs.declared.tree.Module.{Module}
+use Rattle.thin_tree.specs.declared.roots.Link.{Link}
 
--- tokens by their bytes
+-- names by their bytes
 abbrev pub texts : List (Bor (List ℕ)) → List (List ℕ)
 texts ts = map (λ t. t.now) ts
 
@@ -43,17 +44,14 @@ a_process p = record {
   «data» = expression_of p.data;
 }
 
--- an item
-abbrev pub an_item : Item → tree.Item
-an_item (item.Wire name) = tree.Wire name.now
-an_item (item.Reg name) = tree.Reg name.now
-an_item (item.Assign a) = tree.Assign (an_assignment a)
-an_item (item.Always p) = tree.Always (a_process p)
-
--- all items
-abbrev pub all_items : List Item → List tree.Item
-all_items its = map an_item its
-
--- a module
+-- the whole
 abbrev pub a_module : Module → tree.Module
-a_module m = record { name = m.name.now; ports = all_declared m.ports.items; items = all_items m.items.items }
+a_module m = record { declared = all_declared m.declared.items; assignments = map an_assignment m.assigns.items; processes = map a_process m.processes.items }
+
+-- a copy
+abbrev pub a_copy : Link → copies.Copy
+a_copy c = record { target = c.target.now; source = c.source.now }
+
+-- all copies
+abbrev pub all_copies : List Link → List copies.Copy
+all_copies cs = map a_copy cs

@@ -2,7 +2,8 @@
 
 ghost use Rattle.std.specs.Prelude.{◌≡◌, ◌++◌, map, IfOk, Some, None};
 ghost use Rattle.std.specs.Option.{option_map};
-ghost use Rattle.thin_tree.specs.Form.{said, name_of, negated, test_of, is_binary, is_bit, bit_of};
+ghost use Rattle.thin_tree.specs.Copies.{name_of};
+ghost use Rattle.thin_tree.specs.Form.{said, negated, test_of, is_binary, is_bit, bit_of};
 ghost use Rattle.thin_tree.specs.Postfix.{step_of, postfix, expression_of, Pushes};
 
 use crate::steps::{Expression, Step};
@@ -63,7 +64,7 @@ pub(crate) fn value<'a>(alloc: Global, e: &'a Expr) -> Result<Option<Expression<
 }
 
 /// A name.
-#[tactic(auto, unfolding(crate::specs::Form::name_of, crate::specs::Form::name_in))]
+#[tactic(auto, unfolding(crate::specs::Copies::name_of, crate::specs::Copies::name_in))]
 pub(crate) fn name(e: &Expr) -> Option<&[u8]>
     ensures { option_map (λ n. n.now) result ≡ name_of e.now }
 {

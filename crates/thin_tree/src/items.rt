@@ -1,139 +1,154 @@
-//! Reads ports and items.
+//! Reads signals, drivers and processes of a design.
 
-ghost use Rattle.std.specs.Prelude.{◌≡◌, IfOk};
+ghost use Rattle.std.specs.Prelude.{◌≡◌, Some, None, map, IfOk};
 ghost use Rattle.std.specs.Option.{option_map};
-ghost use Rattle.thin_tree.specs.Form.{is_absent, is_bare, declared_name, class_of, port_of, declared_one, wire_of, assignment_of, item_of};
-ghost use Rattle.thin_tree.specs.Written.{a_declared, an_assignment, an_item};
+ghost use Rattle.std.specs.Result.{IsErrOf};
+ghost use Rattle.thin_tree.specs.Form.{all_of, is_wire, is_register, is_net, input_names, signal_in, assignment_in, process_in};
+ghost use Rattle.thin_tree.specs.Written.{all_declared, an_assignment, a_process};
 
 use crate::expressions::{name, value};
-use crate::identifier::identifies;
+use crate::fault::FormFault;
+use crate::names::Names;
 use crate::statements::process;
-use crate::tree::{Assign, Class, Declared, Item};
+use crate::tree::{Assign, Class, Declared, Process};
+use design_form::{Driver, Signal};
 use std::alloc::{AllocError, Global};
-use vlog_tree::{Assignment, Direction, Ident, Net, Port, Shape};
 
-/// Neither `signed` nor a range.
-#[tactic(auto, unfolding(crate::specs::Form::is_bare, crate::specs::Form::is_absent))]
-fn is_bare(shape: &Shape) -> bool
-    ensures { result ≡ is_bare shape.now }
+#[tactic(auto, unfolding(crate::specs::Form::is_net))]
+pub(crate) fn is_net(class: Class) -> bool
+    ensures { result ≡ is_net class }
 {
-    !shape.signed && shape.range.is_none()
-}
-
-/// A name that may be declared.
-#[tactic(auto, unfolding(crate::specs::Form::declared_name, crate::specs::Form::where_so))]
-pub(crate) fn declared_name(i: &Ident) -> Option<&[u8]>
-    ensures { option_map (λ n. n.now) result ≡ declared_name i.now }
-{
-    let name = i.name.as_slice();
-    if identifies(name) { Some(name) } else { None }
-}
-
-#[tactic(auto, unfolding(crate::specs::Form::class_of))]
-fn class_of(direction: Direction) -> Class
-    ensures { result ≡ class_of direction }
-{
-    match direction {
-        Direction::Input => Class::Input,
-        Direction::Output => Class::Net,
-        Direction::Register => Class::Register,
+    match class {
+        Class::Net => true,
+        _ => false,
     }
 }
 
-/// A port with its direction, of one bit.
-#[tactic(auto, unfolding(crate::specs::Form::port_of, crate::specs::Form::and_then, crate::specs::Form::where_so))]
-pub(crate) fn port(p: &Port) -> Option<Declared<'_>>
-    ensures { option_map a_declared result ≡ port_of p.now }
+#[tactic(auto, unfolding(crate::specs::Form::is_wire))]
+fn is_wire(class: Option<Class>) -> bool
+    ensures { result ≡ is_wire class }
 {
-    match p {
-        Port::Declared(direction, shape, called) => {
-            let name = declared_name(called)?;
-            let class = class_of(*direction);
-            if is_bare(shape) {
-                Some(Declared { name, class })
-            } else {
-                None
-            }
-        }
-        Port::Named(_) => None,
+    match class {
+        None => false,
+        Some(class) => is_net(class),
     }
 }
 
-/// One name, declared with a bare shape.
-#[tactic(auto, unfolding(crate::specs::Form::declared_one, crate::specs::Form::and_then, crate::specs::Form::where_so))]
-fn declared_one<'a>(shape: &Shape, names: &'a [Ident]) -> Option<&'a [u8]>
-    ensures { option_map (λ n. n.now) result ≡ declared_one shape.now names.now }
+#[tactic(auto, unfolding(crate::specs::Form::is_register))]
+fn is_register(class: Option<Class>) -> bool
+    ensures { result ≡ is_register class }
 {
-    match names {
-        [called] => {
-            let name = declared_name(called)?;
-            if is_bare(shape) { Some(name) } else { None }
-        }
-        _ => None,
+    match class {
+        Some(Class::Register) => true,
+        _ => false,
     }
 }
 
-/// A wire without a driver.
-#[tactic(auto, unfolding(crate::specs::Form::wire_of, crate::specs::Form::and_then, crate::specs::Form::where_so, crate::specs::Form::is_absent))]
-fn wire<'a>(shape: &Shape, nets: &'a [Net]) -> Option<&'a [u8]>
-    ensures { option_map (λ n. n.now) result ≡ wire_of shape.now nets.now }
-{
-    match nets {
-        [net] => {
-            let name = declared_name(&net.name)?;
-            if is_bare(shape) && net.driver.is_none() {
-                Some(name)
-            } else {
-                None
-            }
-        }
-        _ => None,
-    }
-}
-
-/// One assignment to a name.
-#[tactic(auto, unfolding(crate::specs::Form::assignment_of, crate::specs::Form::and_then))]
+/// A driver of a wire.
+#[tactic(auto, unfolding(crate::specs::Form::assignment_in, crate::specs::Form::and_then, crate::specs::Form::where_so))]
 fn assignment<'a>(
     alloc: Global,
-    assigns: &'a [Assignment],
+    names: &Names<'a>,
+    driver: &'a Driver,
 ) -> Result<Option<Assign<'a>>, AllocError>
-    ensures { IfOk result (λ r. option_map an_assignment r ≡ assignment_of assigns.now) }
+    ensures { IfOk result (λ r. option_map an_assignment r ≡ assignment_in names.now.design.now driver.now) }
 {
-    match assigns {
-        [one] => {
-            let Some(target) = name(&one.target) else {
-                return Ok(None);
-            };
-            let Some(value) = value(alloc, &one.value)? else {
-                return Ok(None);
-            };
-            Ok(Some(Assign { target, value }))
-        }
-        _ => Ok(None),
+    let Some(target) = name(&driver.target) else {
+        return Ok(None);
+    };
+    let Some(value) = value(alloc, &driver.value)? else {
+        return Ok(None);
+    };
+    if !is_wire(names.class_at(target)) {
+        return Ok(None);
     }
+    Ok(Some(Assign { target, value }))
 }
 
-/// An item of the form.
-#[tactic(auto, unfolding(crate::specs::Form::item_of, crate::specs::Form::item_in))]
-pub(crate) fn item<'a>(
+/// A process that loads a register.
+#[tactic(auto, unfolding(crate::specs::Form::process_in, crate::specs::Form::and_then, crate::specs::Form::where_so))]
+fn clocked<'a>(
     alloc: Global,
-    i: &'a vlog_tree::Item,
-) -> Result<Option<Item<'a>>, AllocError>
-    ensures { IfOk result (λ r. option_map an_item r ≡ item_of i.now) }
+    names: &Names<'a>,
+    given: &'a design_form::Process,
+) -> Result<Option<Process<'a>>, AllocError>
+    ensures { IfOk result (λ r. option_map a_process r ≡ process_in names.now.design.now given.now) }
 {
-    match i {
-        vlog_tree::Item::Wires(_, shape, nets) => Ok(wire(shape, nets.as_slice()).map(Item::Wire)),
-        vlog_tree::Item::Registers(_, shape, names) => {
-            Ok(declared_one(shape, names.as_slice()).map(Item::Reg))
-        }
-        vlog_tree::Item::Assign(_, assigns) => {
-            let found = assignment(alloc, assigns.as_slice())?;
-            Ok(found.map(Item::Assign))
-        }
-        vlog_tree::Item::Always(_, control, body) => {
-            let found = process(alloc, control, body)?;
-            Ok(found.map(Item::Always))
-        }
-        _ => Ok(None),
+    let Some(found) = process(alloc, &given.control, &given.body)? else {
+        return Ok(None);
+    };
+    if !is_register(names.class_at(found.loaded)) {
+        return Ok(None);
     }
+    Ok(Some(Process {
+        clock: names.root(found.clock),
+        falling: found.falling,
+        event: names.root(found.event),
+        negated: found.negated,
+        tested: names.root(found.tested),
+        cleared: found.cleared,
+        value: found.value,
+        loaded: found.loaded,
+        data: found.data,
+    }))
+}
+
+/// All signals.
+#[tactic(auto, unfolding(crate::specs::Form::all_of))]
+pub(crate) fn signals<'a>(
+    alloc: Global,
+    names: &Names<'a>,
+    given: &'a [Signal],
+) -> Result<Vec<Declared<'a>>, FormFault>
+    ensures signals { IfOk result (λ v. all_of (signal_in (input_names names.now.design.now.ports)) given.now ≡ Some (all_declared v.items)) }
+    ensures not_of_form { IsErrOf result FormFault.NotOfForm → all_of (signal_in (input_names names.now.design.now.ports)) given.now ≡ None }
+{
+    let mut out = Vec::new(alloc);
+    for s in given {
+        match names.signal(s) {
+            Some(found) => out.push(found)?,
+            None => return Err(FormFault::NotOfForm),
+        }
+    }
+    Ok(out)
+}
+
+/// All drivers.
+#[tactic(auto, unfolding(crate::specs::Form::all_of))]
+pub(crate) fn assignments<'a>(
+    alloc: Global,
+    names: &Names<'a>,
+    given: &'a [Driver],
+) -> Result<Vec<Assign<'a>>, FormFault>
+    ensures assigns { IfOk result (λ v. all_of (assignment_in names.now.design.now) given.now ≡ Some (map an_assignment v.items)) }
+    ensures not_of_form { IsErrOf result FormFault.NotOfForm → all_of (assignment_in names.now.design.now) given.now ≡ None }
+{
+    let mut out = Vec::new(alloc);
+    for d in given {
+        match assignment(alloc, names, d)? {
+            Some(found) => out.push(found)?,
+            None => return Err(FormFault::NotOfForm),
+        }
+    }
+    Ok(out)
+}
+
+/// All processes.
+#[tactic(auto, unfolding(crate::specs::Form::all_of))]
+pub(crate) fn processes<'a>(
+    alloc: Global,
+    names: &Names<'a>,
+    given: &'a [design_form::Process],
+) -> Result<Vec<Process<'a>>, FormFault>
+    ensures processes { IfOk result (λ v. all_of (process_in names.now.design.now) given.now ≡ Some (map a_process v.items)) }
+    ensures not_of_form { IsErrOf result FormFault.NotOfForm → all_of (process_in names.now.design.now) given.now ≡ None }
+{
+    let mut out = Vec::new(alloc);
+    for p in given {
+        match clocked(alloc, names, p)? {
+            Some(found) => out.push(found)?,
+            None => return Err(FormFault::NotOfForm),
+        }
+    }
+    Ok(out)
 }

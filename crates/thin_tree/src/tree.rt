@@ -1,19 +1,19 @@
-//! A module of the form, names lent by the syntax tree.
+//! What a flat design says in the form, names lent by the design.
 
 use crate::steps::Expression;
 
 /// What is declared.
 #[derive(Clone, Copy, Debug, PartialEq, Eq, PartialOrd, Ord)]
 pub enum Class {
-    /// `input`.
+    /// An input port of the top.
     Input,
-    /// `wire`, or an `output` without `reg`.
+    /// A wire.
     Net,
-    /// `output reg` or `reg`.
+    /// A register.
     Register,
 }
 
-/// A port, or a wire or register that is no port.
+/// A signal.
 #[derive(Clone, Copy, PartialEq, Eq, PartialOrd, Ord)]
 pub struct Declared<'a> {
     pub name: &'a [u8],
@@ -43,17 +43,10 @@ pub struct Process<'a> {
     pub data: Expression<'a>,
 }
 
-#[derive(Drop)]
-pub enum Item<'a> {
-    Wire(&'a [u8]),
-    Reg(&'a [u8]),
-    Assign(Assign<'a>),
-    Always(Process<'a>),
-}
-
+/// The signals, what is assigned to wires, and the processes.
 #[derive(Drop)]
 pub struct Module<'a> {
-    pub name: &'a [u8],
-    pub ports: Vec<Declared<'a>>,
-    pub items: Vec<Item<'a>>,
+    pub declared: Vec<Declared<'a>>,
+    pub assigns: Vec<Assign<'a>>,
+    pub processes: Vec<Process<'a>>,
 }

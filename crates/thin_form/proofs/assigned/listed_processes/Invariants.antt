@@ -1,8 +1,7 @@
-use Rattle.std.proofs.Common.{◌≡◌, ◌++◌, drop}
-use Rattle.thin_tree.specs.Written.{all_items}
-use Rattle.thin_form.specs.Rules.{processes_in}
+use Rattle.std.proofs.Common.{◌≡◌, take, map}
+use Rattle.thin_tree.specs.Written.{a_process}
 use Rattle.thin_form.specs.Order.{all_processes}
 use Rattle.thin_form.proofs.assigned.listed_processes.Given as goal
 
-abbrev pub invariant-loop-item : goal.invariant-loop-item
-invariant-loop-item l = all_processes l.out.items ++ processes_in (all_items (drop l.item-index l.items)) ≡ processes_in (all_items l.items)
+abbrev pub invariant-loop-of : goal.invariant-loop-of
+invariant-loop-of l = all_processes l.out.items ≡ map a_process (take l.of-index l.given)

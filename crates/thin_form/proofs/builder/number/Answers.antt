@@ -156,7 +156,7 @@ invariant_of-result c =
     (c.in_ok-sources.ensures ∙ ap (λ fs. entries_of fs c.deref-3.result.now ds) c.deref-2.ensures.value ∙ ap (λ (ks : List ℕ). entries_of found.flops.items ks ds) c.deref-3.ensures.value)
     (c.in_ok-bits.ensures ∙ ap (λ (ws : List ℕ). bits_of ws ds) c.deref.ensures.value) in
     let count : length c.args.declared.now - c.len.result ≡ length (no_wires ds) = omega (arith, c.len.ensures, sizes.0, wires_len, declared_len, total) in
-    lawful ds ps assigns net net_is c.requires.ascending (subst (λ (n : ℕ). AreNodes n c.in-Ok-nodes.made.nodes.items) count c.in-Ok-nodes.ensures.nodes) c.in-Ok-nodes.ensures.few (omega (arith, c.requires.few, declared_len)) c.requires.identifiers
+    lawful ds ps assigns net net_is c.requires.ascending (subst (λ (n : ℕ). AreNodes n c.in-Ok-nodes.made.nodes.items) count c.in-Ok-nodes.ensures.nodes) c.in-Ok-nodes.ensures.few (omega (arith, c.requires.few, declared_len)) c.requires.plain
 
 pub returns-clause-net : goal.returns-clause-net
 returns-clause-net c =

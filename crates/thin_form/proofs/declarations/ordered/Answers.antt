@@ -6,10 +6,9 @@ use Rattle.std.proofs.lemmas.List.Sorted.{answers_always, IsPermutation-map}
 use Rattle.std.proofs.lemmas.Simd.{map-map}
 use Rattle.thin_tree.specs.Tree as tree
 use Rattle.thin_tree.specs.declared.tree.Declared.{Declared}
-use Rattle.thin_tree.specs.Grammar.{declared}
 use Rattle.thin_tree.specs.Written.{a_declared, all_declared, a_module}
 use Rattle.thin_form.specs.Design.{IsAscending}
-use Rattle.thin_form.specs.Rules.{names_of}
+use Rattle.thin_form.specs.Rules.{declared, names_of}
 use Rattle.thin_form.proofs.Orders.{sorted_ascends, distinct_moved}
 use Rattle.thin_form.proofs.declarations.ordered.Goals as goal
 
