@@ -7,3 +7,4 @@ pub mod HeadlineLemmas
 pub mod NodeLemmas
 pub mod PlainLemmas
 pub mod SmallLemmas
+pub mod FrontLemmas

@@ -1,4 +1,5 @@
 //! Whole calls over files and a sink in memory. What is expected was written by hand.
+mod hierarchies;
 mod sources;
 
 use crate::signing::signoff;
@@ -38,7 +39,7 @@ const INITIAL: &str = "module m(input ca, input cb, input ra, input rb, input d,
 endmodule
 ";
 
-// Verilog of the profile that is not of the form: a wire of two bits.
+// A flat design that is not of the form: a wire of two bits.
 const TWO_BITS: &str = "module m(input ca, input cb, input ra, input rb, input d, output reg q);
   reg a;
   wire [1:0] w;
@@ -267,21 +268,9 @@ fn what_is_not_built_is_refused(rt: HostRuntime) -> Result<(), Fail> {
     )?;
     expect(
         &rt,
-        &make_case(&CHECK, CONSTRAINTS, ""),
-        Status::NotYet,
-        not_source,
-    )?;
-    expect(
-        &rt,
         &make_case(&CHECK, "rdc 2\n", SOURCE),
         Status::NotYet,
         not_constraints,
-    )?;
-    expect(
-        &rt,
-        &make_case(&["check", "n", "m.rdc", "m.v"], CONSTRAINTS, SOURCE),
-        Status::NotYet,
-        not_source,
     )
 }
 

@@ -214,11 +214,13 @@ fn the_second_file_is_named_by_its_faults(rt: HostRuntime) -> Result<(), Fail> {
             Status::Source,
             "refused source syntax p.v:1:1\n",
         ),
-        // what is of no form is named by the first file
+        // a module that the top doesn't use makes no difference
+        ("module n; endmodule", Status::Hazard, CROSSING),
+        // the second one of a name is named
         (
-            "module n; endmodule",
-            Status::NotYet,
-            "refused notyet m.v\n",
+            "module m; endmodule",
+            Status::Source,
+            "refused source twomodules m p.v:1:8\n",
         ),
     ];
     for (source, status, text) in rows {
