@@ -31,11 +31,11 @@ fn an_index_is_fixed_in_its_turn(rt: HostRuntime) -> Result<(), Fail> {
 fn turns_are_limited(rt: HostRuntime) -> Result<(), Fail> {
     let rows: [(&str, &str); 2] = [
         (
-            "always @* begin y = c; for (i = 0; i < 65535; i = i + 1) y = d; end",
+            "always @* begin y = c; for (i = 0; i < 65535; i = i + 1) ; end",
             " y",
         ),
         (
-            "always @* begin y = c; for (i = 0; i < 65536; i = i + 1) y = d; end",
+            "always @* begin y = c; for (i = 0; i < 65536; i = i + 1) ; end",
             "LoopLimit 2:1",
         ),
     ];

@@ -55,3 +55,7 @@ one_stops f r fault xs i x lt is before answer = ⊎_elim
 pub all_done : {A : Type 0} (f : A → Or_fault (Unit {0})) (r : Or_fault (Unit {0})) (xs : List A) (i : ℕ) → length xs ≤ i → all_checked f (drop i xs) ≡ r → r ≡ Ok tt
 unfolding all_checked
 all_done f r xs i past before = sym before ∙ ap (all_checked f) (drop_all i xs past)
+
+-- a fault of what is the same
+pub same_fault : (r q : Or_fault (Unit {0})) (fault : ProcFault) → r ≡ q → (fault ≡ Memory) ⊎ (q ≡ Err fault) → (fault ≡ Memory) ⊎ (r ≡ Err fault)
+same_fault r q fault is answer = ⊎_elim (λ lack. inl lack) (λ bad. inr (is ∙ bad)) answer

@@ -6,3 +6,5 @@ mod CertainForms
 mod WalkForms
 mod RightForms
 mod VariableForms
+mod Steps
+mod Ends

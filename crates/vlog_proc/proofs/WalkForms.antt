@@ -13,9 +13,8 @@ use Rattle.vlog_tree.specs.declared.stmt.Stmt.TheOpen.{Stmt-F}
 use Rattle.vlog_tree.specs.declared.stmt.Stmt.TheVariants as s
 use Rattle.design_form.specs.declared.parts.Parts.{Parts}
 use Rattle.proc_cases.specs.Full.{is_full, labels_of}
-use Rattle.vlog_proc.specs.Faults.{Or_fault, and_then, all_checked}
-use Rattle.vlog_proc.specs.Uses.{uses}
-use Rattle.vlog_proc.specs.Paths.{Walk, also, assign_walk, case_walk, choice_walk, has_default, in_turn, is_default, item_walk, other_side, passes_by, ready, shared, together, walk, walk_by_parts}
+use Rattle.vlog_proc.specs.Faults.{Or_fault, and_then}
+use Rattle.vlog_proc.specs.Paths.{Walk, also, assign_walk, case_walk, choice_walk, has_default, in_turn, is_default, item_walk, met_with, other_side, passes_by, settled, tested, walk, walk_by_parts}
 use Rattle.vlog_proc.proofs.Chains.{then_same, with_body}
 
 abbrev self : Walk → Walk
@@ -41,23 +40,18 @@ passes_kept d how selector f arms =
     ap (λ (b : Bool). not b && not (is_full d how selector (labels_of (map (with_body f) arms)))) (default_kept f arms)
     ∙ ap (λ (es : List Expr). not (has_default arms) && not (is_full d how selector es)) (labels_kept f arms)
 
-also_of : (d : Parts) (bits : List ℕ) (f : Stmt → Walk) (arms : List (Arm Stmt)) (x done : List ℕ) → also (item_walk d bits self) (map (with_body f) arms) x done ≡ also (item_walk d bits f) arms x done
+also_of : (d : Parts) (bits : List ℕ) (f : Stmt → Walk) (arms : List (Arm Stmt)) (x : Option (List ℕ)) (done : List ℕ) → also (item_walk d bits self) (map (with_body f) arms) x done ≡ also (item_walk d bits f) arms x done
 unfolding also item_walk
 also_of d bits f [] x done = refl
 also_of d bits f (a ∷ arms) x done =
-    then_same (item_walk d bits f a done) (λ y. also (item_walk d bits self) (map (with_body f) arms) (shared x y) done) (λ y. also (item_walk d bits f) arms (shared x y) done) (λ y. also_of d bits f arms (shared x y) done)
-
-together_of : (d : Parts) (bits : List ℕ) (f : Stmt → Walk) (arms : List (Arm Stmt)) (done : List ℕ) → together (item_walk d bits self) (map (with_body f) arms) done ≡ together (item_walk d bits f) arms done
-unfolding together item_walk
-together_of d bits f [] done = refl
-together_of d bits f (a ∷ arms) done =
-    then_same (item_walk d bits f a done) (λ x. also (item_walk d bits self) (map (with_body f) arms) x done) (λ x. also (item_walk d bits f) arms x done) (λ x. also_of d bits f arms x done)
+    then_same (item_walk d bits f a done) (λ y. also (item_walk d bits self) (map (with_body f) arms) (Some (met_with x y)) done) (λ y. also (item_walk d bits f) arms (Some (met_with x y)) done) (λ y. also_of d bits f arms (Some (met_with x y)) done)
 
 case_of : (d : Parts) (bits : List ℕ) (f : Stmt → Walk) (how : Matching) (selector : Expr) (arms : List (Arm Stmt)) (done : List ℕ) → case_walk d bits self how selector (map (with_body f) arms) done ≡ case_walk d bits f how selector arms done
-unfolding case_walk
+unfolding case_walk settled
 case_of d bits f how selector arms done =
-    ap (λ (b : Bool). and_then (uses (ready d.signals bits done) selector) (λ u. and_then (together (item_walk d bits self) (map (with_body f) arms) done) (λ x. Ok (if b then done else x)))) (passes_kept d how selector f arms)
-    ∙ ap (λ (r : Or_fault (List ℕ)). and_then (uses (ready d.signals bits done) selector) (λ u. and_then r (λ x. Ok (if passes_by d how selector arms then done else x)))) (together_of d bits f arms done)
+    ap (λ (b : Bool). and_then (tested d bits selector done) (λ own. and_then (also (item_walk d bits self) (map (with_body f) arms) None own) (λ x. Ok (if b then done else x)))) (passes_kept d how selector f arms)
+    ∙ then_same (tested d bits selector done) (λ own. and_then (also (item_walk d bits self) (map (with_body f) arms) None own) (λ x. Ok (if passes_by d how selector arms then done else x))) (λ own. and_then (also (item_walk d bits f) arms None own) (λ x. Ok (if passes_by d how selector arms then done else x)))
+    (λ own. ap (λ (r : Or_fault (List ℕ)). and_then r (λ x. Ok (if passes_by d how selector arms then done else x))) (also_of d bits f arms None own))
 
 pub walk-Empty : (d : Parts) (bits done : List ℕ) (place : Place) → walk d bits (s.Empty place) done ≡ Ok done
 unfolding walk walk_by_parts

@@ -86,31 +86,50 @@ other_side f (Some s) x done = do
   y ← f s done
   Ok (shared x y)
 
+-- what is done behind an expression that may be read, which is what was done
+unfoldable pub tested : Parts → List ℕ → Expr → Walk
+tested d bits e done = do
+  u ← uses (ready d.signals bits done) e
+  Ok done
+
 unfoldable pub choice_walk : {S : Type 0} → Parts → List ℕ → (S → Walk) → Expr → S → Option S → Walk
 choice_walk d bits f test a b done = do
-  u ← uses (ready d.signals bits done) test
-  x ← f a done
+  own ← tested d bits test done
+  x ← f a own
   other_side f b x done
+
+-- the same behind labels
+unfoldable pub begun : Parts → List ℕ → List Expr → Walk
+begun d bits es done = do
+  u ← all_checked (uses (ready d.signals bits done)) es
+  Ok done
 
 -- a case item
 unfoldable pub item_walk : {S : Type 0} → Parts → List ℕ → (S → Walk) → Arm S → Walk
 item_walk d bits f a done = do
-  u ← all_checked (uses (ready d.signals bits done)) a.labels
-  f a.body done
+  own ← begun d bits a.labels done
+  f a.body own
 
--- what further ones share with those before, which share x
-unfoldable pub also : {S : Type 0} → (S → Walk) → List S → List ℕ → Walk
-also f [] x done = Ok x
+-- what an item shares with those before it, if there are some
+unfoldable pub met_with : Option (List ℕ) → List ℕ → List ℕ
+met_with None y = y
+met_with (Some x) y = shared x y
+
+-- what all share, where there are some
+unfoldable pub or_done : List ℕ → Option (List ℕ) → List ℕ
+or_done done None = done
+or_done done (Some x) = x
+
+-- what further items share with those before
+unfoldable pub also : {S : Type 0} → (S → Walk) → List S → Option (List ℕ) → Walk
+also f [] x done = Ok (or_done done x)
 also f (a ∷ more) x done = do
   y ← f a done
-  also f more (shared x y) done
+  also f more (Some (met_with x y)) done
 
--- what all of some share
-unfoldable pub together : {S : Type 0} → (S → Walk) → List S → Walk
-together f [] done = Ok done
-together f (a ∷ more) done = do
-  x ← f a done
-  also f more x done
+-- what all of some items share
+abbrev pub together : {S : Type 0} → (S → Walk) → List S → Walk
+together f arms done = also f arms None done
 
 -- whether one of some items is the default
 unfoldable pub is_default : List Expr → Bool
@@ -124,11 +143,15 @@ has_default arms = list_any (λ a. is_default a.labels) arms
 unfoldable pub passes_by : {S : Type 0} → Parts → Matching → Expr → List (Arm S) → Bool
 passes_by d how selector arms = not (has_default arms) && not (is_full d how selector (labels_of arms))
 
+-- what is done behind a `case` whose items share x
+unfoldable pub settled : {S : Type 0} → Parts → Matching → Expr → List (Arm S) → List ℕ → List ℕ → Or_fault (List ℕ)
+settled d how selector arms done x = Ok (if passes_by d how selector arms then done else x)
+
 unfoldable pub case_walk : {S : Type 0} → Parts → List ℕ → (S → Walk) → Matching → Expr → List (Arm S) → Walk
 case_walk d bits f how selector arms done = do
-  u ← uses (ready d.signals bits done) selector
-  x ← together (item_walk d bits f) arms done
-  Ok (if passes_by d how selector arms then done else x)
+  own ← tested d bits selector done
+  x ← together (item_walk d bits f) arms own
+  settled d how selector arms done x
 
 unfoldable pub walk_by_parts : Parts → List ℕ → Stmt-F Walk → Walk
 walk_by_parts d bits (Stmt-F.Empty place) done = Ok done

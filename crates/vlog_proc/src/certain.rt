@@ -17,6 +17,7 @@ use vlog_const::{ConstFault, Env, value};
 use vlog_tree::Expr;
 
 /// The bits that a target names, behind those that are there: those that a driver with this target drives.
+#[tactic(auto, using(crate::proofs::Rows::bits_touched))]
 pub(crate) fn put_named(
     alloc: Global,
     design: &Design,

@@ -1,8 +1,8 @@
 //! What each path through a body assigns.
 ghost use Rattle.std.specs.Prelude.{◌≡◌, IfOk};
-ghost use Rattle.std.specs.List.{list_any};
+ghost use Rattle.std.specs.Option.{option_map};
 ghost use Rattle.vlog_proc.specs.Faults.{Answers, all_checked};
-ghost use Rattle.vlog_proc.specs.Paths.{also, assign_walk, case_walk, choice_walk, complete, has_default, in_turn, is_default, is_done, item_walk, other_side, passes_by, paths_checked, together, walk};
+ghost use Rattle.vlog_proc.specs.Paths.{assign_walk, begun, complete, has_default, in_turn, is_default, is_done, item_walk, met_with, other_side, passes_by, paths_checked, settled, tested, together, walk};
 
 use crate::certain::put_certain;
 use crate::fault::ProcFault;
@@ -79,9 +79,73 @@ fn assignment(
     Ok(())
 }
 
+/// What is done where a case item begins, whose labels may be read.
+#[tactic(auto, unfolding(crate::specs::Paths::begun, crate::specs::Faults::and_then))]
+fn begun(
+    alloc: Global,
+    design: &Design,
+    bits: &BTreeSet<u32>,
+    labels: &[Expr],
+    done: &BTreeSet<u32>,
+) -> Result<BTreeSet<u32>, ProcFault>
+    ensures { Answers (λ set. set.keys) result (begun design.now bits.now.keys labels.now done.now.keys) }
+{
+    all_reads(alloc, design, bits, done, labels)?;
+    Ok(copy(done)?)
+}
+
+/// What is done where a side of an `if` begins, whose test may be read.
+#[tactic(auto, unfolding(crate::specs::Paths::tested, crate::specs::Faults::and_then))]
+fn tested(
+    alloc: Global,
+    design: &Design,
+    bits: &BTreeSet<u32>,
+    test: &Expr,
+    done: &BTreeSet<u32>,
+) -> Result<BTreeSet<u32>, ProcFault>
+    ensures { Answers (λ set. set.keys) result (tested design.now bits.now.keys test.now done.now.keys) }
+{
+    reads(alloc, design, bits, done, test)?;
+    Ok(copy(done)?)
+}
+
+/// What is done behind a `case` whose items share this.
+#[tactic(auto, unfolding(crate::specs::Paths::settled))]
+fn settle(
+    alloc: Global,
+    design: &Design,
+    how: Matching,
+    selector: &Expr,
+    arms: &[Arm<Boxed<Stmt>>],
+    shared: BTreeSet<u32>,
+    done: &mut BTreeSet<u32>,
+) -> Result<(), ProcFault>
+    ensures { Answers (λ u. done.new.keys) result (settled design.now how selector.now arms.now done.old.keys shared.keys) }
+{
+    if !passes_by(alloc, design, how, selector, arms)? {
+        *done = shared;
+    }
+    Ok(())
+}
+
+/// What an item shares with those before it, if there are some.
+#[tactic(auto, unfolding(crate::specs::Paths::met_with))]
+fn joined(met: Option<BTreeSet<u32>>, own: BTreeSet<u32>) -> BTreeSet<u32>
+    ensures { result.keys ≡ met_with (option_map (λ set. set.keys) met) own.keys }
+{
+    match met {
+        None => own,
+        Some(met) => {
+            let mut shared = met;
+            share(&mut shared, &own);
+            shared
+        }
+    }
+}
+
 /// A statement without loops.
 #[cycle(walking)]
-#[tactic(auto, using(crate::proofs::WalkForms::forms))]
+#[tactic(auto, using(crate::proofs::WalkForms::forms), unfolding(crate::specs::Faults::and_then))]
 fn walk(
     alloc: Global,
     design: &Design,
@@ -92,21 +156,50 @@ fn walk(
     ensures { Answers (λ u. done.new.keys) result (walk design.now bits.now.keys s.now done.old.keys) }
 {
     match s {
-        Stmt::Empty(_) | Stmt::For(_, _, _) => Ok(()),
+        Stmt::Empty(_) => Ok(()),
+        Stmt::For(_, _, _) => Ok(()),
         Stmt::Block(_, _, inner) => in_turn(alloc, design, bits, inner.as_slice(), done),
         Stmt::Assign(_, target, _, value) => assignment(alloc, design, bits, target, value, done),
         Stmt::If(_, test, first, other) => {
-            choice(alloc, design, bits, test, first.get(), other, done)
+            let mut own = tested(alloc, design, bits, test, done)?;
+            walk(alloc, design, bits, first.get(), &mut own)?;
+            side(alloc, design, bits, other, own, done)
         }
         Stmt::Case(_, how, selector, arms) => {
-            selection(alloc, design, bits, *how, selector, arms.as_slice(), done)
+            let own = tested(alloc, design, bits, selector, done)?;
+            let shared = together(alloc, design, bits, arms.as_slice(), &own)?;
+            settle(alloc, design, *how, selector, arms.as_slice(), shared, done)
+        }
+    }
+}
+
+/// The other side of an `if` whose first one leaves this done.
+#[cycle(walking)]
+#[tactic(auto, unfolding(crate::specs::Paths::other_side, crate::specs::Faults::and_then))]
+fn side(
+    alloc: Global,
+    design: &Design,
+    bits: &BTreeSet<u32>,
+    other: &Option<Boxed<Stmt>>,
+    first: BTreeSet<u32>,
+    done: &mut BTreeSet<u32>,
+) -> Result<(), ProcFault>
+    ensures { Answers (λ u. done.new.keys) result (other_side (walk design.now bits.now.keys) other.now first.keys done.old.keys) }
+{
+    match other {
+        None => Ok(()),
+        Some(other) => {
+            walk(alloc, design, bits, other.get(), done)?;
+            let mut shared = first;
+            share(&mut shared, done);
+            *done = shared;
+            Ok(())
         }
     }
 }
 
 /// Statements, one behind the other.
 #[cycle(walking)]
-#[tactic(auto, unfolding(crate::specs::Paths::in_turn))]
 fn in_turn(
     alloc: Global,
     design: &Design,
@@ -125,68 +218,8 @@ fn in_turn(
     Ok(())
 }
 
-/// What is done behind a statement that begins where this is done.
+/// What all of some case items share, where the first one leaves this done.
 #[cycle(walking)]
-fn behind(
-    alloc: Global,
-    design: &Design,
-    bits: &BTreeSet<u32>,
-    s: &Stmt,
-    done: &BTreeSet<u32>,
-) -> Result<BTreeSet<u32>, ProcFault>
-    ensures { Answers (λ set. set.keys) result (walk design.now bits.now.keys s.now done.now.keys) }
-{
-    let mut own = copy(done)?;
-    walk(alloc, design, bits, s, &mut own)?;
-    Ok(own)
-}
-
-/// An `if`.
-#[cycle(walking)]
-#[tactic(auto, unfolding(crate::specs::Paths::choice_walk, crate::specs::Paths::other_side, crate::specs::Faults::and_then))]
-fn choice(
-    alloc: Global,
-    design: &Design,
-    bits: &BTreeSet<u32>,
-    test: &Expr,
-    first: &Stmt,
-    other: &Option<Boxed<Stmt>>,
-    done: &mut BTreeSet<u32>,
-) -> Result<(), ProcFault>
-    ensures { Answers (λ u. done.new.keys) result (choice_walk design.now bits.now.keys (walk design.now bits.now.keys) test.now first.now other.now done.old.keys) }
-{
-    reads(alloc, design, bits, done, test)?;
-    let first = behind(alloc, design, bits, first, done)?;
-    match other {
-        None => Ok(()),
-        Some(other) => {
-            let other = behind(alloc, design, bits, other.get(), done)?;
-            *done = first;
-            share(done, &other);
-            Ok(())
-        }
-    }
-}
-
-/// A case item.
-#[cycle(walking)]
-#[tactic(auto, unfolding(crate::specs::Paths::item_walk, crate::specs::Faults::and_then))]
-fn item(
-    alloc: Global,
-    design: &Design,
-    bits: &BTreeSet<u32>,
-    arm: &Arm<Boxed<Stmt>>,
-    done: &BTreeSet<u32>,
-) -> Result<BTreeSet<u32>, ProcFault>
-    ensures { Answers (λ set. set.keys) result (item_walk design.now bits.now.keys (walk design.now bits.now.keys) arm.now done.now.keys) }
-{
-    all_reads(alloc, design, bits, done, arm.labels.as_slice())?;
-    behind(alloc, design, bits, arm.body.get(), done)
-}
-
-/// What all of some case items share.
-#[cycle(walking)]
-#[tactic(auto, unfolding(crate::specs::Paths::together, crate::specs::Paths::also, crate::specs::Faults::and_then))]
 fn together(
     alloc: Global,
     design: &Design,
@@ -196,58 +229,22 @@ fn together(
 ) -> Result<BTreeSet<u32>, ProcFault>
     ensures { Answers (λ set. set.keys) result (together (item_walk design.now bits.now.keys (walk design.now bits.now.keys)) arms.now done.now.keys) }
 {
-    match arms {
-        [] => Ok(copy(done)?),
-        [arm, more @ ..] => {
-            let first = item(alloc, design, bits, arm, done)?;
-            also(alloc, design, bits, more, first, done)
-        }
-    }
-}
-
-/// What further case items share with those before.
-#[cycle(walking)]
-#[tactic(auto, unfolding(crate::specs::Paths::also, crate::specs::Faults::and_then))]
-fn also(
-    alloc: Global,
-    design: &Design,
-    bits: &BTreeSet<u32>,
-    arms: &[Arm<Boxed<Stmt>>],
-    first: BTreeSet<u32>,
-    done: &BTreeSet<u32>,
-) -> Result<BTreeSet<u32>, ProcFault>
-    ensures { Answers (λ set. set.keys) result (also (item_walk design.now bits.now.keys (walk design.now bits.now.keys)) arms.now first.keys done.now.keys) }
-{
-    let mut shared = first;
+    let mut met: Option<BTreeSet<u32>> = None;
     for arm in arms {
-        match item(alloc, design, bits, arm, done) {
-            Ok(own) => share(&mut shared, &own),
+        let mut own = match begun(alloc, design, bits, arm.labels.as_slice(), done) {
+            Ok(own) => own,
+            Err(fault) => return Err(fault),
+        };
+        match walk(alloc, design, bits, arm.body.get(), &mut own) {
+            Ok(()) => {}
             Err(fault) => return Err(fault),
         }
+        met = Some(joined(met, own));
     }
-    Ok(shared)
-}
-
-/// A `case`.
-#[cycle(walking)]
-#[tactic(auto, unfolding(crate::specs::Paths::case_walk, crate::specs::Faults::and_then))]
-fn selection(
-    alloc: Global,
-    design: &Design,
-    bits: &BTreeSet<u32>,
-    how: Matching,
-    selector: &Expr,
-    arms: &[Arm<Boxed<Stmt>>],
-    done: &mut BTreeSet<u32>,
-) -> Result<(), ProcFault>
-    ensures { Answers (λ u. done.new.keys) result (case_walk design.now bits.now.keys (walk design.now bits.now.keys) how selector.now arms.now done.old.keys) }
-{
-    reads(alloc, design, bits, done, selector)?;
-    let shared = together(alloc, design, bits, arms, done)?;
-    if !passes_by(alloc, design, how, selector, arms)? {
-        *done = shared;
+    match met {
+        None => Ok(copy(done)?),
+        Some(met) => Ok(met),
     }
-    Ok(())
 }
 
 /// A bit that is assigned on every path.

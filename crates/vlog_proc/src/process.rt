@@ -27,6 +27,7 @@ pub struct Assigned {
 }
 
 /// No input ports: those of a design that has none.
+#[tactic(auto, unfolding(elab_bits::specs::Parts::input_bits, elab_bits::specs::Touches::entered))]
 fn no_inputs(alloc: Global) -> Result<Inputs, AllocError>
     ensures { IfOk result (λ inputs. inputs ≡ []) }
 {
