@@ -8,7 +8,7 @@
 --     complete place ss bits done       all bits of the process are done at the end, or `Latch` at its place
 --     paths_checked d p bits body       both
 use Rattle.std.specs.Prelude.{if◌then◌else◌, ℕ, Bool, true, false, not, ◌&&◌, List, [], ◌∷◌, Option, Some, None, Ok, Err}
-use Rattle.std.specs.List.{filter, flat_map, list_all, list_any}
+use Rattle.std.specs.List.{flat_map, list_all, list_any}
 use Rattle.rdc_outside.specs.declared.source.Place.{Place}
 use Rattle.vlog_tree.specs.declared.expr.Expr.{Expr, para-Expr}
 use Rattle.vlog_tree.specs.declared.expr.Expr.TheOpen.{Expr-F}
@@ -19,7 +19,7 @@ use Rattle.vlog_tree.specs.declared.stmt.Stmt.TheOpen.{Stmt-F}
 use Rattle.vlog_const.specs.declared.whole.Whole.{Whole}
 use Rattle.design_form.specs.declared.signal.Signal.{Signal}
 use Rattle.design_form.specs.declared.parts.Parts.{Parts}
-use Rattle.elab_bits.specs.Touches.{entered, is_among}
+use Rattle.elab_bits.specs.Touches.{entered, is_among, once}
 use Rattle.elab_bits.specs.Selects.{all_bits, constant, indexed, selected}
 use Rattle.proc_cases.specs.Full.{is_full, labels_of}
 use Rattle.vlog_proc.specs.declared.fault.ProcFault.TheVariants.{Latch}
@@ -61,9 +61,13 @@ ready ss bits done place name = if is_early ss bits done name then Err (Latch na
 abbrev pub Walk : Type 0
 Walk = List ℕ → Or_fault (List ℕ)
 
+-- a bit, if a list has it
+unfoldable pub kept_in : List ℕ → ℕ → List ℕ
+kept_in ms n = if is_among ms n then n ∷ [] else []
+
 -- the bits of one list that the other one has too
 unfoldable pub shared : List ℕ → List ℕ → List ℕ
-shared ns ms = filter (is_among ms) ns
+shared ns ms = once (flat_map (kept_in ms) ns)
 
 -- an assignment
 unfoldable pub assign_walk : Parts → List ℕ → Expr → Expr → Walk
@@ -171,7 +175,7 @@ unfoldable pub is_done : Place → List Signal → List ℕ → ℕ → Or_fault
 is_done place ss done n = if is_among done n then Ok tt else Err (Latch (owner ss n) place)
 
 -- all bits of the process are done at the end, or `Latch` at its place
-unfoldable pub complete : Place → List Signal → List ℕ → List ℕ → Or_fault (Unit {0})
+abbrev pub complete : Place → List Signal → List ℕ → List ℕ → Or_fault (Unit {0})
 complete place ss bits done = all_checked (is_done place ss done) bits
 
 unfoldable pub paths_checked : Parts → Place → List ℕ → Stmt → Or_fault (Unit {0})

@@ -2,7 +2,7 @@
 ghost use Rattle.std.specs.Prelude.{◌≡◌, IfOk};
 ghost use Rattle.std.specs.Option.{option_map};
 ghost use Rattle.vlog_proc.specs.Faults.{Answers, all_checked};
-ghost use Rattle.vlog_proc.specs.Paths.{assign_walk, begun, complete, has_default, in_turn, is_default, is_done, item_walk, met_with, other_side, passes_by, paths_checked, settled, tested, together, walk};
+ghost use Rattle.vlog_proc.specs.Paths.{assign_walk, begun, complete, has_default, in_turn, is_default, is_done, item_walk, met_with, or_done, other_side, passes_by, paths_checked, settled, tested, together, walk};
 
 use crate::certain::put_certain;
 use crate::fault::ProcFault;
@@ -130,16 +130,30 @@ fn settle(
 
 /// What an item shares with those before it, if there are some.
 #[tactic(auto, unfolding(crate::specs::Paths::met_with))]
-fn joined(met: Option<BTreeSet<u32>>, own: BTreeSet<u32>) -> BTreeSet<u32>
-    ensures { result.keys ≡ met_with (option_map (λ set. set.keys) met) own.keys }
+fn joined(
+    alloc: Global,
+    met: &Option<BTreeSet<u32>>,
+    own: BTreeSet<u32>,
+) -> Result<BTreeSet<u32>, AllocError>
+    ensures { IfOk result (λ set. set.keys ≡ met_with (option_map (λ set. set.keys) met.now) own.keys) }
 {
     match met {
-        None => own,
-        Some(met) => {
-            let mut shared = met;
-            share(&mut shared, &own);
-            shared
-        }
+        None => Ok(own),
+        Some(met) => share(alloc, met, &own),
+    }
+}
+
+/// What all items share, if there are some.
+#[tactic(auto, unfolding(crate::specs::Paths::or_done))]
+fn or_done(
+    met: Option<BTreeSet<u32>>,
+    done: &BTreeSet<u32>,
+) -> Result<BTreeSet<u32>, AllocError>
+    ensures { IfOk result (λ set. set.keys ≡ or_done done.now.keys (option_map (λ set. set.keys) met)) }
+{
+    match met {
+        None => copy(done),
+        Some(met) => Ok(met),
     }
 }
 
@@ -161,14 +175,27 @@ fn walk(
         Stmt::Block(_, _, inner) => in_turn(alloc, design, bits, inner.as_slice(), done),
         Stmt::Assign(_, target, _, value) => assignment(alloc, design, bits, target, value, done),
         Stmt::If(_, test, first, other) => {
-            let mut own = tested(alloc, design, bits, test, done)?;
-            walk(alloc, design, bits, first.get(), &mut own)?;
+            let mut own = match tested(alloc, design, bits, test, done) {
+                Ok(own) => own,
+                Err(fault) => return Err(fault),
+            };
+            match walk(alloc, design, bits, first.get(), &mut own) {
+                Ok(()) => {}
+                Err(fault) => return Err(fault),
+            }
             side(alloc, design, bits, other, own, done)
         }
         Stmt::Case(_, how, selector, arms) => {
-            let own = tested(alloc, design, bits, selector, done)?;
-            let shared = together(alloc, design, bits, arms.as_slice(), &own)?;
-            settle(alloc, design, *how, selector, arms.as_slice(), shared, done)
+            let arms = arms.as_slice();
+            let own = match tested(alloc, design, bits, selector, done) {
+                Ok(own) => own,
+                Err(fault) => return Err(fault),
+            };
+            let shared = match together(alloc, design, bits, arms, &own) {
+                Ok(shared) => shared,
+                Err(fault) => return Err(fault),
+            };
+            settle(alloc, design, *how, selector, arms, shared, done)
         }
     }
 }
@@ -190,9 +217,7 @@ fn side(
         None => Ok(()),
         Some(other) => {
             walk(alloc, design, bits, other.get(), done)?;
-            let mut shared = first;
-            share(&mut shared, done);
-            *done = shared;
+            *done = share(alloc, &first, done)?;
             Ok(())
         }
     }
@@ -239,11 +264,14 @@ fn together(
             Ok(()) => {}
             Err(fault) => return Err(fault),
         }
-        met = Some(joined(met, own));
+        match joined(alloc, &met, own) {
+            Ok(shared) => met = Some(shared),
+            Err(_) => return Err(ProcFault::Memory),
+        }
     }
-    match met {
-        None => Ok(copy(done)?),
-        Some(met) => Ok(met),
+    match or_done(met, done) {
+        Ok(shared) => Ok(shared),
+        Err(_) => Err(ProcFault::Memory),
     }
 }
 
@@ -265,7 +293,6 @@ fn is_done(
 }
 
 /// All bits of the process are assigned on every path.
-#[tactic(auto, unfolding(crate::specs::Paths::complete))]
 fn complete(
     alloc: Global,
     design: &Design,

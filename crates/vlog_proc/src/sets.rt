@@ -1,8 +1,8 @@
 //! Bits in ascending order, each once.
 ghost use Rattle.std.specs.Prelude.{◌≡◌, ◌++◌, map, IfOk, OnOk};
-ghost use Rattle.std.specs.List.{list_all, list_any};
+ghost use Rattle.std.specs.List.{flat_map, list_all, list_any};
 ghost use Rattle.elab_bits.specs.Touches.{entered, is_among, once};
-ghost use Rattle.vlog_proc.specs.Paths.{shared};
+ghost use Rattle.vlog_proc.specs.Paths.{kept_in, shared};
 
 use elab_bits::Touch;
 use std::alloc::{AllocError, Global};
@@ -82,10 +82,42 @@ pub(crate) fn all_among(set: &BTreeSet<u32>, bits: &[u32]) -> bool
     true
 }
 
-/// What another set has too stays.
-#[tactic(auto, unfolding(crate::specs::Paths::shared))]
-pub(crate) fn share(set: &mut BTreeSet<u32>, other: &BTreeSet<u32>)
-    ensures { set.new.keys ≡ shared set.old.keys other.now.keys }
+/// A bit, if it is in a set, behind those that are there.
+#[tactic(auto, unfolding(crate::specs::Paths::kept_in))]
+fn put_kept(set: &BTreeSet<u32>, bit: u32, bits: &mut Vec<u32>) -> Result<(), AllocError>
+    ensures { OnOk result (bits.new.items ≡ bits.old.items ++ kept_in set.now.keys bit) }
 {
-    set.retain(|bit| is_among(other, *bit));
+    if is_among(set, bit) {
+        bits.push(bit)?;
+    }
+    Ok(())
+}
+
+/// Those of some bits that are in a set, behind those that are there.
+fn put_all_kept(
+    set: &BTreeSet<u32>,
+    more: &[u32],
+    bits: &mut Vec<u32>,
+) -> Result<(), AllocError>
+    ensures { OnOk result (bits.new.items ≡ bits.old.items ++ flat_map (kept_in set.now.keys) more.now) }
+{
+    for bit in more {
+        put_kept(set, *bit, bits)?;
+    }
+    Ok(())
+}
+
+/// The bits that two sets share.
+#[tactic(auto, unfolding(crate::specs::Paths::shared))]
+pub(crate) fn share(
+    alloc: Global,
+    set: &BTreeSet<u32>,
+    other: &BTreeSet<u32>,
+) -> Result<BTreeSet<u32>, AllocError>
+    ensures { IfOk result (λ both. both.keys ≡ shared set.now.keys other.now.keys) }
+{
+    let all = listed(alloc, set)?;
+    let mut bits = Vec::new(alloc);
+    put_all_kept(other, &all, &mut bits)?;
+    set_of(alloc, &bits)
 }
