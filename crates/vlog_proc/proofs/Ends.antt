@@ -1,5 +1,5 @@
 -- Faults of bodies without loops.
-use Rattle.std.proofs.Common.{◌≡◌, ◌⊎◌, Result, Ok, Err, inl, inr, refl, sym, ap, ◌∙◌, ⊎_elim}
+use Rattle.std.proofs.Common.{◌≡◌, ◌⊎◌, Result, Err, inl, inr, sym, ap, ◌∙◌, ⊎_elim}
 use Rattle.rdc_outside.specs.declared.source.Place.{Place}
 use Rattle.proc_loops.specs.declared.fault.LoopFault.{LoopFault}
 use Rattle.proc_loops.specs.declared.fault.LoopFault.TheVariants as loop

@@ -1,5 +1,5 @@
 -- What each form of statement may assign.
-use Rattle.std.proofs.Common.{◌≡◌, ℕ, List, [], ◌∷◌, ◌++◌, Option, Some, None, Ok, refl, sym, ap, ◌∙◌}
+use Rattle.std.proofs.Common.{◌≡◌, ℕ, List, [], ◌∷◌, ◌++◌, Option, Some, None, Ok, sym, ap, ◌∙◌}
 use Rattle.rdc_outside.specs.declared.source.Place.{Place}
 use Rattle.vlog_tree.specs.declared.expr.Expr.{Expr}
 use Rattle.vlog_tree.specs.declared.ident.Ident.{Ident}
@@ -10,7 +10,7 @@ use Rattle.vlog_tree.specs.declared.stmt.Matching.{Matching}
 use Rattle.vlog_tree.specs.declared.stmt.Stmt.{Stmt, fold-roll-Stmt}
 use Rattle.vlog_tree.specs.declared.stmt.Stmt.TheOpen.{Stmt-F}
 use Rattle.vlog_tree.specs.declared.stmt.Stmt.TheVariants as s
-use Rattle.vlog_proc.specs.Faults.{Or_fault, all_checked}
+use Rattle.vlog_proc.specs.Faults.{all_checked}
 use Rattle.vlog_proc.specs.Uses.{then_also, named_targets}
 use Rattle.vlog_proc.specs.Assigns.{Rule, Within, allowed, header_right, rights, rights_by_parts, side_right}
 use Rattle.vlog_proc.proofs.Chains.{checked_map, with_body}

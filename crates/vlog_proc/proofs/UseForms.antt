@@ -8,7 +8,7 @@ use Rattle.vlog_tree.specs.declared.expr.Part.{Part}
 use Rattle.vlog_tree.specs.declared.number.Number.{Number}
 use Rattle.vlog_tree.specs.declared.operator.Unary.{Unary}
 use Rattle.vlog_tree.specs.declared.operator.Binary.{Binary}
-use Rattle.vlog_proc.specs.Faults.{Or_fault, and_then, all_checked}
+use Rattle.vlog_proc.specs.Faults.{Or_fault, all_checked}
 use Rattle.vlog_proc.specs.Uses.{Test, then_also, uses, uses_by_parts, target_uses, target_uses_by_parts}
 use Rattle.vlog_proc.proofs.Chains.{each_of, each_beside}
 

@@ -18,7 +18,7 @@ use Rattle.design_form.specs.declared.parts.Process.{Process}
 use Rattle.elab_bits.specs.Bodies.{side}
 use Rattle.elab_bits.specs.Processes.{has_edges}
 use Rattle.vlog_proc.specs.declared.fault.ProcFault.TheVariants.{WrongAssign}
-use Rattle.vlog_proc.specs.Faults.{Or_fault, and_then, all_checked}
+use Rattle.vlog_proc.specs.Faults.{Or_fault, all_checked}
 use Rattle.vlog_proc.specs.Names.{is_named, is_register, is_variable, kind_of}
 use Rattle.vlog_proc.specs.Uses.{Test, then_also, named_targets}
 

@@ -5,7 +5,6 @@
 --     is_named names name        whether a name is one of these
 use Rattle.std.specs.Prelude.{if◌then◌else◌, ℕ, Bool, true, false, List, [], ◌∷◌, Option, Some, None}
 use Rattle.std.specs.List.{list_any}
-use Rattle.std.specs.Option.{option_map}
 use Rattle.std.specs.Str.{bytes_eq}
 use Rattle.design_form.specs.declared.signal.Signal.{Signal}
 use Rattle.design_form.specs.declared.signal.SignalKind.{SignalKind}

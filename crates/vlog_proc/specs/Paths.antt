@@ -23,7 +23,7 @@ use Rattle.elab_bits.specs.Touches.{entered, is_among, once}
 use Rattle.elab_bits.specs.Selects.{all_bits, constant, indexed, selected}
 use Rattle.proc_cases.specs.Full.{is_full, labels_of}
 use Rattle.vlog_proc.specs.declared.fault.ProcFault.TheVariants.{Latch}
-use Rattle.vlog_proc.specs.Faults.{Or_fault, and_then, ◌>>=◌, all_checked}
+use Rattle.vlog_proc.specs.Faults.{Or_fault, ◌>>=◌, all_checked}
 use Rattle.vlog_proc.specs.Names.{owner}
 use Rattle.vlog_proc.specs.Uses.{Test, uses, target_uses}
 

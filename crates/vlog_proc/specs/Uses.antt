@@ -3,7 +3,7 @@
 --     uses f e                   of the names that an expression reads
 --     target_uses f e            of the names that the indices of a target read
 --     named_targets f e          of the names that a target assigns
-use Rattle.std.specs.Prelude.{ℕ, List, map, Ok}
+use Rattle.std.specs.Prelude.{ℕ, List, Ok}
 use Rattle.rdc_outside.specs.declared.source.Place.{Place}
 use Rattle.vlog_tree.specs.declared.expr.Expr.{Expr, fold-Expr, para-Expr}
 use Rattle.vlog_tree.specs.declared.expr.Expr.TheOpen.{Expr-F}

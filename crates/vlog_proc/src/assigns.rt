@@ -16,26 +16,33 @@ use vlog_tree::{Arm, Assigns, Loop, Stmt};
 
 /// A loop's header assigns its variable, and what it steps.
 #[tactic(auto, unfolding(crate::specs::Faults::and_then))]
-fn header_right(
-    alloc: Global,
-    design: &Design,
-    kind: &Kind,
-    header: &Loop,
-) -> Result<(), ProcFault>
+fn header_right(alloc: Global, design: &Design, kind: &Kind, header: &Loop) -> Result<(), ProcFault>
     ensures { Answers (λ u. u) result (header_right (rule design.now.signals kind.now.edged kind.now.variables) header.now) }
 {
     let (variable, stepped) = (&header.variable, &header.stepped);
     let by = Assigns::Blocking;
-    allowed(alloc, design, kind, &[], by, variable.place, variable.name.as_slice())?;
-    allowed(alloc, design, kind, &[], by, stepped.place, stepped.name.as_slice())
+    allowed(
+        alloc,
+        design,
+        kind,
+        &[],
+        by,
+        variable.place,
+        variable.name.as_slice(),
+    )?;
+    allowed(
+        alloc,
+        design,
+        kind,
+        &[],
+        by,
+        stepped.place,
+        stepped.name.as_slice(),
+    )
 }
 
 /// Names, and one more behind them.
-fn with_name(
-    alloc: Global,
-    names: &[Seq<u8>],
-    name: &[u8],
-) -> Result<Vec<Seq<u8>>, AllocError>
+fn with_name(alloc: Global, names: &[Seq<u8>], name: &[u8]) -> Result<Vec<Seq<u8>>, AllocError>
     ensures { IfOk result (λ all. all.items ≡ names.now ++ name.now ∷ []) }
 {
     let mut all = Vec::new(alloc);

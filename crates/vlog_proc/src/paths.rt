@@ -145,10 +145,7 @@ fn joined(
 
 /// What all items share, if there are some.
 #[tactic(auto, unfolding(crate::specs::Paths::or_done))]
-fn or_done(
-    met: Option<BTreeSet<u32>>,
-    done: &BTreeSet<u32>,
-) -> Result<BTreeSet<u32>, AllocError>
+fn or_done(met: Option<BTreeSet<u32>>, done: &BTreeSet<u32>) -> Result<BTreeSet<u32>, AllocError>
     ensures { IfOk result (λ set. set.keys ≡ or_done done.now.keys (option_map (λ set. set.keys) met)) }
 {
     match met {

@@ -94,11 +94,7 @@ fn put_kept(set: &BTreeSet<u32>, bit: u32, bits: &mut Vec<u32>) -> Result<(), Al
 }
 
 /// Those of some bits that are in a set, behind those that are there.
-fn put_all_kept(
-    set: &BTreeSet<u32>,
-    more: &[u32],
-    bits: &mut Vec<u32>,
-) -> Result<(), AllocError>
+fn put_all_kept(set: &BTreeSet<u32>, more: &[u32], bits: &mut Vec<u32>) -> Result<(), AllocError>
     ensures { OnOk result (bits.new.items ≡ bits.old.items ++ flat_map (kept_in set.now.keys) more.now) }
 {
     for bit in more {

@@ -53,11 +53,7 @@ pub(crate) fn put_variables(
 
 /// The same of some statements.
 #[cycle(collecting)]
-fn put_all_variables(
-    alloc: Global,
-    ss: &[Stmt],
-    names: &mut Vec<Seq<u8>>,
-) -> Result<(), AllocError>
+fn put_all_variables(alloc: Global, ss: &[Stmt], names: &mut Vec<Seq<u8>>) -> Result<(), AllocError>
     ensures { OnOk result (names.new.items ≡ names.old.items ++ flat_map loop_variables ss.now) }
 {
     for s in ss {

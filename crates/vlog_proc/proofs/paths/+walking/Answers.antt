@@ -1,5 +1,4 @@
 use Rattle.std.proofs.Common.{ℕ, List, Ok, refl, sym, ap, subst, ◌∙◌, arith}
-use Rattle.std.specs.Option.{option_map}
 use Rattle.vlog_proc.specs.Faults.{Or_fault, Answers}
 use Rattle.vlog_proc.specs.Paths.{item_walk, walk}
 use Rattle.vlog_proc.proofs.Steps.{test_stops, first_stops, side_ends, selector_stops, items_stop, case_ends, turn_more, turn_stops, turn_end, item_more, item_stops, item_end, item_ok, labels_stop, body_stops}
@@ -31,7 +30,6 @@ together-loop-arm-preserved t c =
     item_more (item_walk c.args.design.now c.args.bits.now.keys (walk c.args.design.now c.args.bits.now.keys)) c.args.arms.now c.loop-arm.arm-index c.arm-item.result _ c.args.done.now.keys _ _ _ (omega arith) c.arm-item.is c.loop-arm.invariant
     (item_ok c.args.design.now c.args.bits.now.keys c.arm-item.result c.as_slice.result.now c.get.result.now c.args.done.now.keys _ _ c.as_slice.ensures c.get.ensures c.in-Ok.ensures c.in-Ok-walk.ensures)
     c.in-Ok-joined.ensures
-
 
 pub together-returns-in-Ok-or_done : goal.together-returns-in-Ok-or_done
 together-returns-in-Ok-or_done t c =
