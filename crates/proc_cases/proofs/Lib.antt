@@ -1,0 +1,2 @@
+mod MaskForms
+mod CaseLemmas

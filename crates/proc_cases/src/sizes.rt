@@ -1,0 +1,64 @@
+//! Widths and signs in a `case`.
+ghost use Rattle.std.specs.Prelude.{◌≡◌, IfOk};
+ghost use Rattle.vlog_const.specs.Widths.{common};
+ghost use Rattle.design_form.specs.Extents.{shape_of};
+ghost use Rattle.design_sizes.specs.Sizes as sizes;
+ghost use Rattle.design_sizes.specs.Sizes.{common_of};
+ghost use Rattle.proc_cases.specs.Full.{labels_of};
+
+use design_form::{Design, Extent, size_of};
+use sqlite_items::Boxed;
+use std::alloc::{AllocError, Global};
+use vlog_tree::{Arm, Expr, Stmt};
+
+/// The width and the sign of an expression by itself.
+pub(crate) fn size(alloc: Global, design: &Design, e: &Expr) -> Result<Extent, AllocError>
+    ensures { IfOk result (λ x. shape_of x ≡ sizes.shape_of design.now e.now) }
+{
+    match size_of(alloc, design, e) {
+        Ok(size) => Ok(size),
+        Err(_) => Err(AllocError),
+    }
+}
+
+/// The larger width; signed where both are.
+fn common(a: Extent, b: Extent) -> Extent
+    ensures { shape_of result ≡ common (shape_of a) (shape_of b) }
+{
+    Extent {
+        width: a.width.max(b.width),
+        signed: a.signed && b.signed,
+    }
+}
+
+/// The size of labels together with what there is so far.
+fn labels_size(
+    alloc: Global,
+    design: &Design,
+    start: Extent,
+    labels: &[Expr],
+) -> Result<Extent, AllocError>
+    ensures { IfOk result (λ x. shape_of x ≡ common_of design.now (shape_of start) labels.now) }
+{
+    let mut all = start;
+    for label in labels {
+        all = common(all, size(alloc, design, label)?);
+    }
+    Ok(all)
+}
+
+/// The size of a selector, whose own is given, and all labels together.
+pub(crate) fn case_size(
+    alloc: Global,
+    design: &Design,
+    own: Extent,
+    arms: &[Arm<Boxed<Stmt>>],
+) -> Result<Extent, AllocError>
+    ensures { IfOk result (λ x. shape_of x ≡ common_of design.now (shape_of own) (labels_of arms.now)) }
+{
+    let mut all = own;
+    for arm in arms {
+        all = labels_size(alloc, design, all, arm.labels.as_slice())?;
+    }
+    Ok(all)
+}

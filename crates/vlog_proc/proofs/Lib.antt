@@ -1,0 +1,10 @@
+mod Chains
+mod Rows
+mod UseForms
+mod NamedForms
+mod CertainForms
+mod WalkForms
+mod RightForms
+mod VariableForms
+mod Steps
+mod Ends

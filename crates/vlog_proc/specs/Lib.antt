@@ -1,0 +1,7 @@
+pub mod Faults
+pub mod Names
+pub mod Uses
+pub mod Paths
+pub mod Assigns
+pub mod Lists
+pub mod Processes
