@@ -10,10 +10,7 @@ fn an_index_is_fixed_in_its_turn(rt: HostRuntime) -> Result<(), Fail> {
             "always @* for (i = 0; i < 4; i = i + 1) q[i] = v[3 - i];",
             " q[0] q[1] q[2] q[3]",
         ),
-        (
-            "always @* for (i = 3; i < 6; i = i + 1) q[i] = c;",
-            " q[3]",
-        ),
+        ("always @* for (i = 3; i < 6; i = i + 1) q[i] = c;", " q[3]"),
         (
             "always @* begin y = i[0]; for (i = 0; i < 1; i = i + 1) q[i] = c; end",
             "Latch i 2:21",
