@@ -4,9 +4,9 @@ use Rattle.std.proofs.lemmas.Bool.{cases_lt}
 use Rattle.std.proofs.lemmas.Nat.{pow-add}
 use Rattle.std.proofs.lemmas.List.{drop_more, drop_all, get_or-drop, length-append, length-replicate, length-take, take_more, take-append-le, take-replicate, get_or_past, get_or_default, append_assoc, append-nil}
 use Rattle.std.proofs.lemmas.List.Elements.{All-cons, All-tail, All-take, All-append, All-replicate}
-use Rattle.net_core.specs.Net.{Net}
 use Rattle.net_words.specs.declared.shifts.Toward.{Toward}
 use Rattle.net_words.specs.declared.shifts.Toward.TheVariants.{Top, Bottom}
+use Rattle.net_view.specs.View.{Numbered}
 use Rattle.net_words.specs.Builds.{Build, ◌>>=◌, return, AreThere}
 use Rattle.net_words.specs.Words.{select}
 use Rattle.net_words.specs.Shifts.{raised, lowered, moved, shift_from}
@@ -75,11 +75,11 @@ lowered_there bound fill n (a ∷ w) low there =
 raised_there : (bound fill : ℕ) (n : ℕ) (w : List ℕ) → fill < bound → All (λ k. k < bound) w → All (λ k. k < bound) (raised fill n w)
 raised_there bound fill n w low there = All-take (λ k. k < bound) (length w) (replicate n fill ++ w) (All-append (λ k. k < bound) (replicate n fill) w (All-replicate (λ k. k < bound) n fill low) there)
 
-pub moved_there : (net : Net) (toward : Toward) (fill : ℕ) (n : ℕ) (w : List ℕ) → fill < length net.gates → AreThere net w → AreThere net (moved toward fill n w)
-moved_there net Top fill n w low there = raised_there (length net.gates) fill n w low there
-moved_there net Bottom fill n w low there = lowered_there (length net.gates) fill n w low there
+pub moved_there : (net : List Numbered) (toward : Toward) (fill : ℕ) (n : ℕ) (w : List ℕ) → fill < length net → AreThere net w → AreThere net (moved toward fill n w)
+moved_there net Top fill n w low there = raised_there (length net) fill n w low there
+moved_there net Bottom fill n w low there = lowered_there (length net) fill n w low there
 
-pub shift_here : {all : Build (List ℕ)} {old now : Net} (toward : Toward) (fill : ℕ) (w far amount : List ℕ) (i n b : ℕ) → i < length amount → b ≡ get_or amount i b
+pub shift_here : {all : Build (List ℕ)} {old now : List Numbered} (toward : Toward) (fill : ℕ) (w far amount : List ℕ) (i n b : ℕ) → i < length amount → b ≡ get_or amount i b
     → min n (length w) ≡ min (2 ^ i) (length w) → far ≡ moved toward fill n w
     → IsLeft all old now (shift_from toward fill i w (drop i amount)) → IsLeft all old now (select b far w >>= (λ next. shift_from toward fill (i + 1) next (drop (i + 1) amount)))
 unfolding shift_from
@@ -87,7 +87,7 @@ shift_here {all} {old} {now} toward fill w far amount i n b inside b-is same far
     subst (λ (v : List ℕ). IsLeft all old now (select b v w >>= (λ next. shift_from toward fill (i + 1) next (drop (i + 1) amount)))) (sym (far-is ∙ moved_far toward fill n (2 ^ i) w same))
     (subst (λ (v : List ℕ). IsLeft all old now (shift_from toward fill i w v)) (drop_here amount i b inside b-is) left)
 
-pub shift_whole : {all : Build (List ℕ)} {old now : Net} (toward : Toward) (fill : ℕ) (w amount : List ℕ) (i : ℕ) → length amount ≤ i → IsLeft all old now (shift_from toward fill i w (drop i amount)) → IsLeft all old now (return w)
+pub shift_whole : {all : Build (List ℕ)} {old now : List Numbered} (toward : Toward) (fill : ℕ) (w amount : List ℕ) (i : ℕ) → length amount ≤ i → IsLeft all old now (shift_from toward fill i w (drop i amount)) → IsLeft all old now (return w)
 unfolding shift_from
 shift_whole {all} {old} {now} toward fill w amount i past left = subst (λ (v : List ℕ). IsLeft all old now (shift_from toward fill i w v)) (drop_all i amount past) left
 

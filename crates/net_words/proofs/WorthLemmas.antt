@@ -1,13 +1,9 @@
 -- Serves specs/Builds.antt: what is built is worth in the whole net, step by step.
-use Rattle.std.proofs.Common.{◌≡◌, ℕ, Bool, true, false, List, [], ◌∷◌, length, append_assoc, refl, sym, ◌∙◌, subst, Option, Some, None, if◌then◌else◌, ◌==◌}
+use Rattle.std.proofs.Common.{◌≡◌, ℕ, Bool, true, false, List, [], ◌∷◌, ◌++◌, length, append_assoc, refl, sym, ◌∙◌, subst, Option, Some, None, if◌then◌else◌, ◌==◌}
 use Rattle.rdc_tern.specs.declared.value.Tern.{Tern}
-use Rattle.net_view.specs.View.{Numbered}
+use Rattle.net_view.specs.View.{Numbered, IsGateAt}
 use Rattle.net_view.specs.Values.{State, at, gate_value, IsValuation}
-use Rattle.net_core.specs.declared.folds.Made.{Made}
-use Rattle.net_core.specs.declared.folds.Made.TheVariants.{There, New}
-use Rattle.net_core.specs.Folds.{folded, added, node_of}
-use Rattle.net_core.specs.Net.{most_nodes}
-use Rattle.net_core.proofs.FoldLemmas.{added_value}
+use Rattle.net_gates.specs.Gates.{most_nodes}
 use Rattle.net_words.specs.Builds.{Built, Build, onward, ◌>>=◌, return, put, Begins, Gives}
 
 some_built : {X : Type 0} (a b : Built X) → Some a ≡ Some b → a ≡ b
@@ -22,10 +18,10 @@ built_if : {X : Type 0} (full : Bool) (x built : Built X) → (if full then None
 built_if true x built is = absurd (cc)
 built_if false x built is = some_built x built is
 
--- what was there stands in front
-begins_added : (gates whole : List Numbered) (made : Made) → Begins (added gates made) whole → Begins gates whole
-begins_added gates whole (There n) begins = begins
-begins_added gates whole (New g) begins = (g ∷ begins.0, sym (append_assoc gates (g ∷ []) begins.0) ∙ begins.1)
+-- the gate behind the others
+gate_there : (gates more : List Numbered) (g : Numbered) → IsGateAt ((gates ++ g ∷ []) ++ more) (length gates) g
+gate_there [] more g = refl
+gate_there (h ∷ gates) more g = gate_there gates more g
 
 pub gives_return : (whole : List Numbered) {X : Type 0} (P : X → Type 0) (x : X) → P x → Gives whole (return x) P
 unfolding return
@@ -49,8 +45,7 @@ gives_more whole b P Q given more gates built is begins = let g = given gates bu
 pub gives_put : (whole : List Numbered) (state : State) (found : List Tern) → IsValuation whole state found → (g : Numbered) → Gives whole (put g) (λ n. at found n ≡ gate_value state (at found) g)
 unfolding put
 gives_put whole state found valued g gates built is begins =
-    let made = folded gates g in
-    let same = built_if (length gates == most_nodes) (record { gates = added gates made; made = node_of gates made }) built is in
-    let front : Begins (added gates made) whole = subst (λ (b : Built ℕ). Begins b.gates whole) (sym same) begins in
-    let value = added_value gates g front.0 state found (subst (λ (all : List Numbered). IsValuation all state found) (sym front.1) valued) in
-    (begins_added gates whole made front, subst (λ (b : Built ℕ). at found b.made ≡ gate_value state (at found) g) same value)
+    let same = built_if (length gates == most_nodes) (record { gates = gates ++ g ∷ []; made = length gates }) built is in
+    let front : Begins (gates ++ g ∷ []) whole = subst (λ (b : Built ℕ). Begins b.gates whole) (sym same) begins in
+    let there : IsGateAt whole (length gates) g = subst (λ (all : List Numbered). IsGateAt all (length gates) g) front.1 (gate_there gates front.0 g) in
+    ((g ∷ front.0, sym (append_assoc gates (g ∷ []) front.0) ∙ front.1), subst (λ (b : Built ℕ). at found b.made ≡ gate_value state (at found) g) same (valued.each (length gates) g there))

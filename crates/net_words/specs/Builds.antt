@@ -1,16 +1,15 @@
--- How gates are built one behind the other: what is made, and the gates that are then there.
---   Built, Build              what is made of the gates that are there, or nothing where the net is full
+-- How gates are drawn one behind the other: what is made, and the gates that are then there. Nothing folds.
+--   Built, Build              what is made of the gates that are there, or nothing where the list is full
 --   return, b >>= f, put      nothing is added, one step behind another, one gate
 --   Begins, Gives, IsWorth    what is built stays in front, and is worth so much in every net and state
---   AreThere, Grows, Builds   what a call on a builder does that builds so
-use Rattle.std.specs.Prelude.{◌≡◌, ℕ, ◌<◌, List, All, ◌++◌, length, Option, Some, None, Result, Ok, Err, if◌then◌else◌, ◌==◌}
+--   AreThere, Builds          what a call on a list of gates does that builds so
+use Rattle.std.specs.Prelude.{◌≡◌, ℕ, ◌<◌, List, [], ◌∷◌, All, ◌++◌, length, Option, Some, None, Result, Ok, Err, if◌then◌else◌, ◌==◌}
 use Rattle.rdc_tern.specs.declared.value.Tern.{Tern}
 use Rattle.net_view.specs.View.{Numbered}
 use Rattle.net_view.specs.Values.{State, at, IsValuation}
-use Rattle.net_core.specs.declared.fault.NetFault.{NetFault}
-use Rattle.net_core.specs.declared.fault.NetFault.TheVariants.{Memory, Full}
-use Rattle.net_core.specs.Folds.{folded, added, node_of}
-use Rattle.net_core.specs.Net.{Net, with_gates, most_nodes}
+use Rattle.net_gates.specs.declared.fault.GateFault.{GateFault}
+use Rattle.net_gates.specs.declared.fault.GateFault.TheVariants.{Memory, Full}
+use Rattle.net_gates.specs.Gates.{most_nodes}
 
 -- the gates, and what is made of them
 pub record Built (X : Type 0) : Type 0 where
@@ -32,12 +31,9 @@ b >>= f = λ gates. onward (b gates) f
 unfoldable pub return : {X : Type 0} → X → Build X
 return x = λ gates. Some (record { gates = gates; made = x })
 
--- one gate, or the node that it folds to; in a full net nothing, folded or not
+-- one gate, and its node, which is new; in a full list nothing
 unfoldable pub put : Numbered → Build ℕ
-put g = λ gates. if length gates == most_nodes then None else Some (record {
-  gates = added gates (folded gates g);
-  made = node_of gates (folded gates g);
-})
+put g = λ gates. if length gates == most_nodes then None else Some (record { gates = gates ++ g ∷ []; made = length gates })
 
 -- the first is the front of the second
 abbrev pub Begins : List Numbered → List Numbered → Type 0
@@ -51,22 +47,17 @@ Gives {X} whole build P = (gates : List Numbered) (built : Built X) → build ga
 abbrev pub IsWorth : {X : Type 0} → Build X → (State → X → Type 0) → Type 0
 IsWorth build P = (whole : List Numbered) (state : State) (found : List Tern) → IsValuation whole state found → Gives whole build (P (at found))
 
--- each node of a word is one of the net
-abbrev pub AreThere : Net → List ℕ → Type 0
-AreThere net word = All (λ n. n < length net.gates) word
-
--- the first gates are those that were there; names, kinds and bits are the same
-pub record Grows (old new : Net) : Type 0 where
-  pub same : new ≡ with_gates old new.gates
-  pub front : Begins old.gates new.gates
+-- each node of a word is one of the list
+abbrev pub AreThere : List Numbered → List ℕ → Type 0
+AreThere gates word = All (λ n. n < length gates) word
 
 -- what a call answers: what is built; Full only where nothing is. Memory may be wanting at any time
-abbrev pub Answers : {A X : Type 0} → (A → X) → Build X → Net → Result A NetFault → Net → Type 0
-Answers f build old (Ok a) new = build old.gates ≡ Some (record { gates = new.gates; made = f a })
-Answers f build old (Err Full) new = build old.gates ≡ None
+abbrev pub Answers : {A X : Type 0} → (A → X) → Build X → List Numbered → Result A GateFault → List Numbered → Type 0
+Answers f build old (Ok a) new = build old ≡ Some (record { gates = new; made = f a })
+Answers f build old (Err Full) new = build old ≡ None
 Answers f build old (Err Memory) new = Unit {0}
 
--- what a call does: the gates of a definition, its answer, and at a fault some of them at most
-pub record Builds {A X : Type 0} (f : A → X) (build : Build X) (old : Net) (result : Result A NetFault) (new : Net) : Type 0 where
-  pub grows : Grows old new
+-- what a call does: the gates that were there stay in front, it draws those of a definition, and at a fault some of them at most
+pub record Builds {A X : Type 0} (f : A → X) (build : Build X) (old : List Numbered) (result : Result A GateFault) (new : List Numbered) : Type 0 where
+  pub front : Begins old new
   pub answers : Answers f build old result new

@@ -6,31 +6,31 @@ ghost use Rattle.net_words.specs.Comparisons as spec;
 use crate::bits::{Bitwise, put, xnor};
 use crate::reductions::all;
 use crate::words::each;
-use net_core::{NetBuilder, NetFault, Node};
+use net_gates::{GateFault, GateList, Node};
 use net_view::Gate;
 use std::alloc::Global;
 
 /// `a == b`. Its inverse is `a != b`.
-pub fn eq(alloc: Global, net: &mut NetBuilder, a: &[Node], b: &[Node]) -> Result<Node, NetFault>
+pub fn eq(alloc: Global, net: &mut GateList, a: &[Node], b: &[Node]) -> Result<Node, GateFault>
     requires width { length a.now ≡ length b.now }
     requires a { AreThere net.old a.now }
     requires b { AreThere net.old b.now }
     ensures builds { Builds (λ n. n) (spec.eq a.now b.now) net.old result net.new }
-    ensures inside { IfOk result (λ n. n < length net.new.gates) }
-    ensures longer { length net.old.gates ≤ length net.new.gates }
+    ensures inside { IfOk result (λ n. n < length net.new) }
+    ensures longer { length net.old ≤ length net.new }
 {
     let same = each(alloc, net, Bitwise::Xnor, a, b)?;
     all(net, same.as_slice())
 }
 
 /// `a < b` of unsigned words.
-pub fn lt(net: &mut NetBuilder, a: &[Node], b: &[Node]) -> Result<Node, NetFault>
+pub fn lt(net: &mut GateList, a: &[Node], b: &[Node]) -> Result<Node, GateFault>
     requires width { length a.now ≡ length b.now }
     requires a { AreThere net.old a.now }
     requires b { AreThere net.old b.now }
     ensures builds { Builds (λ n. n) (spec.lt a.now b.now) net.old result net.new }
-    ensures inside { IfOk result (λ n. n < length net.new.gates) }
-    ensures longer { length net.old.gates ≤ length net.new.gates }
+    ensures inside { IfOk result (λ n. n < length net.new) }
+    ensures longer { length net.old ≤ length net.new }
 {
     let zero = put(net, Gate::Const(false))?;
     lt_from(net, zero, a, b)
@@ -39,16 +39,16 @@ pub fn lt(net: &mut NetBuilder, a: &[Node], b: &[Node]) -> Result<Node, NetFault
 /// `a < b` of signed words.
 pub fn lt_signed(
     alloc: Global,
-    net: &mut NetBuilder,
+    net: &mut GateList,
     a: &[Node],
     b: &[Node],
-) -> Result<Node, NetFault>
+) -> Result<Node, GateFault>
     requires width { length a.now ≡ length b.now }
     requires a { AreThere net.old a.now }
     requires b { AreThere net.old b.now }
     ensures builds { Builds (λ n. n) (spec.lt_signed a.now b.now) net.old result net.new }
-    ensures inside { IfOk result (λ n. n < length net.new.gates) }
-    ensures longer { length net.old.gates ≤ length net.new.gates }
+    ensures inside { IfOk result (λ n. n < length net.new) }
+    ensures longer { length net.old ≤ length net.new }
 {
     let left = top_inverted(alloc, net, a)?;
     let right = top_inverted(alloc, net, b)?;
@@ -56,12 +56,12 @@ pub fn lt_signed(
 }
 
 /// The word with its top bit inverted.
-fn top_inverted(alloc: Global, net: &mut NetBuilder, word: &[Node]) -> Result<Vec<Node>, NetFault>
+fn top_inverted(alloc: Global, net: &mut GateList, word: &[Node]) -> Result<Vec<Node>, GateFault>
     requires { AreThere net.old word.now }
     ensures builds { Builds (λ w. w.items) (spec.top_inverted word.now) net.old result net.new }
     ensures width { IfOk result (λ w. length w.items ≡ length word.now) }
     ensures inside { IfOk result (λ w. AreThere net.new w.items) }
-    ensures longer { length net.old.gates ≤ length net.new.gates }
+    ensures longer { length net.old ≤ length net.new }
 {
     let mut made = Vec::from_slice(alloc, word)?;
     if word.is_empty() {
@@ -74,14 +74,14 @@ fn top_inverted(alloc: Global, net: &mut NetBuilder, word: &[Node]) -> Result<Ve
 }
 
 /// Bit by bit upward, from what the bits below gave.
-fn lt_from(net: &mut NetBuilder, first: Node, a: &[Node], b: &[Node]) -> Result<Node, NetFault>
+fn lt_from(net: &mut GateList, first: Node, a: &[Node], b: &[Node]) -> Result<Node, GateFault>
     requires width { length a.now ≡ length b.now }
-    requires first { first < length net.old.gates }
+    requires first { first < length net.old }
     requires a { AreThere net.old a.now }
     requires b { AreThere net.old b.now }
     ensures builds { Builds (λ n. n) (spec.lt_from first a.now b.now) net.old result net.new }
-    ensures inside { IfOk result (λ n. n < length net.new.gates) }
-    ensures longer { length net.old.gates ≤ length net.new.gates }
+    ensures inside { IfOk result (λ n. n < length net.new) }
+    ensures longer { length net.old ≤ length net.new }
 {
     let mut less = first;
     for i in 0..a.len() {
@@ -91,13 +91,13 @@ fn lt_from(net: &mut NetBuilder, first: Node, a: &[Node], b: &[Node]) -> Result<
 }
 
 /// Less by this bit, or equal in it and less by those below it.
-fn lt_bit(net: &mut NetBuilder, so_far: Node, a: Node, b: Node) -> Result<Node, NetFault>
-    requires so_far { so_far < length net.old.gates }
-    requires a { a < length net.old.gates }
-    requires b { b < length net.old.gates }
+fn lt_bit(net: &mut GateList, so_far: Node, a: Node, b: Node) -> Result<Node, GateFault>
+    requires so_far { so_far < length net.old }
+    requires a { a < length net.old }
+    requires b { b < length net.old }
     ensures builds { Builds (λ n. n) (spec.lt_bit so_far a b) net.old result net.new }
-    ensures inside { IfOk result (λ n. n < length net.new.gates) }
-    ensures longer { length net.old.gates ≤ length net.new.gates }
+    ensures inside { IfOk result (λ n. n < length net.new) }
+    ensures longer { length net.old ≤ length net.new }
 {
     let other = put(net, Gate::Not(a))?;
     let less = put(net, Gate::And(other, b))?;

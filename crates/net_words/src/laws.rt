@@ -1,12 +1,14 @@
 //! What the gates are worth: laws of values, for whoever builds with them. They compute nothing.
 ghost use Rattle.std.specs.Prelude.{◌≡◌, ℕ, Bool, List, map};
+ghost use Rattle.rdc_tern.specs.declared.value.Tern.{Tern};
+ghost use Rattle.net_view.specs.View.{Numbered};
 ghost use Rattle.rdc_tern.specs.Kleene.{not_of, and_of, or_of, xor_of, mux_of};
 ghost use Rattle.rdc_tern.specs.Shifts.{select_of, shl_of, shr_of, sar_of};
 ghost use Rattle.rdc_tern.specs.Words as word;
-ghost use Rattle.net_view.specs.Values.{settled};
-ghost use Rattle.net_view.specs.declared.gate.Gate.TheVariants.{Const, Not, And, Or, Xor};
+ghost use Rattle.net_view.specs.Values.{State, IsValuation, at, settled};
+ghost use Rattle.net_view.specs.declared.gate.Gate.TheVariants.{Const, Source, Not, And, Or, Xor};
 ghost use Rattle.net_words.specs.declared.bits.Bitwise.{Bitwise};
-ghost use Rattle.net_words.specs.Builds.{put, IsWorth};
+ghost use Rattle.net_words.specs.Builds.{put, Gives, IsWorth};
 ghost use Rattle.net_words.specs.Bits as bits;
 ghost use Rattle.net_words.specs.Words as words;
 ghost use Rattle.net_words.specs.Words.{bit_of, each_of};
@@ -18,6 +20,7 @@ ghost use Rattle.net_words.specs.Comparisons as comparisons;
 /// What one gate is worth.
 pub fn gates_are_worth()
     ensures constant { (b : Bool) → IsWorth (put (Const b)) (λ v n. v n ≡ settled b) }
+    ensures leaf { (s : ℕ) (whole : List Numbered) (state : State) (found : List Tern) → IsValuation whole state found → Gives whole (put (Source s)) (λ n. at found n ≡ state s) }
     ensures inverse { (a : ℕ) → IsWorth (put (Not a)) (λ v n. v n ≡ not_of (v a)) }
     ensures conjunction { (a b : ℕ) → IsWorth (put (And a b)) (λ v n. v n ≡ and_of (v a) (v b)) }
     ensures disjunction { (a b : ℕ) → IsWorth (put (Or a b)) (λ v n. v n ≡ or_of (v a) (v b)) }

@@ -1,10 +1,10 @@
-//! The gates of operations on words, built into a net.
+//! The gates of operations on words, drawn in a list that never folds.
 //!
-//! Each call builds exactly the gates that its definition says (`specs/Builds.antt`, then a file for each family), and
-//! answers their nodes; `Full` is answered only where they don't fit. In every net that begins with them, and in
+//! Each call draws exactly the gates that its definition says (`specs/Builds.antt`, then a file for each family), and
+//! answers their nodes; `Full` is answered only where they don't fit. In every list that begins with them, and in
 //! every ternary state, the nodes are worth what `rdc_tern` makes of the values of the operands (`laws.rt`).
 //! Words are lists of nodes, least significant bit first.
-//! The net: stands on `net_core` and `rdc_tern`. Lowering builds expressions with it.
+//! The net: stands on `net_gates` and `rdc_tern`. Lowering draws expressions with it.
 #![tactic(auto)]
 
 mod bits;

@@ -1,13 +1,13 @@
 //! Shifts of words, least significant bit first, by amounts that may be X.
 ghost use Rattle.std.specs.Prelude.{◌≡◌, ◌<◌, ◌≤◌, ◌+◌, ◌++◌, length, min, replicate, slice_index_or, IfOk, IfErr};
-ghost use Rattle.net_core.specs.declared.fault.NetFault.TheVariants.{Memory};
+ghost use Rattle.net_gates.specs.declared.fault.GateFault.TheVariants.{Memory};
 ghost use Rattle.net_words.specs.Builds.{Builds, AreThere};
 ghost use Rattle.net_words.specs.Shifts.{raised, lowered};
 ghost use Rattle.net_words.specs.Shifts as spec;
 
 use crate::bits::put;
 use crate::words::select;
-use net_core::{NetBuilder, NetFault, Node};
+use net_gates::{GateFault, GateList, Node};
 use net_view::Gate;
 use std::alloc::Global;
 
@@ -23,16 +23,16 @@ pub enum Toward {
 /// `word << amount`, filled with 0.
 pub fn shl(
     alloc: Global,
-    net: &mut NetBuilder,
+    net: &mut GateList,
     word: &[Node],
     amount: &[Node],
-) -> Result<Vec<Node>, NetFault>
+) -> Result<Vec<Node>, GateFault>
     requires word { AreThere net.old word.now }
     requires amount { AreThere net.old amount.now }
     ensures builds { Builds (λ w. w.items) (spec.shl word.now amount.now) net.old result net.new }
     ensures width { IfOk result (λ w. length w.items ≡ length word.now) }
     ensures inside { IfOk result (λ w. AreThere net.new w.items) }
-    ensures longer { length net.old.gates ≤ length net.new.gates }
+    ensures longer { length net.old ≤ length net.new }
 {
     let low = put(net, Gate::Const(false))?;
     shift(alloc, net, Toward::Top, low, word, amount)
@@ -41,16 +41,16 @@ pub fn shl(
 /// `word >> amount`, filled with 0.
 pub fn shr(
     alloc: Global,
-    net: &mut NetBuilder,
+    net: &mut GateList,
     word: &[Node],
     amount: &[Node],
-) -> Result<Vec<Node>, NetFault>
+) -> Result<Vec<Node>, GateFault>
     requires word { AreThere net.old word.now }
     requires amount { AreThere net.old amount.now }
     ensures builds { Builds (λ w. w.items) (spec.shr word.now amount.now) net.old result net.new }
     ensures width { IfOk result (λ w. length w.items ≡ length word.now) }
     ensures inside { IfOk result (λ w. AreThere net.new w.items) }
-    ensures longer { length net.old.gates ≤ length net.new.gates }
+    ensures longer { length net.old ≤ length net.new }
 {
     let low = put(net, Gate::Const(false))?;
     shift(alloc, net, Toward::Bottom, low, word, amount)
@@ -59,17 +59,17 @@ pub fn shr(
 /// `word >>> amount` of a signed word, filled with its top bit.
 pub fn sar(
     alloc: Global,
-    net: &mut NetBuilder,
+    net: &mut GateList,
     word: &[Node],
     amount: &[Node],
-) -> Result<Vec<Node>, NetFault>
+) -> Result<Vec<Node>, GateFault>
     requires some { 0 < length word.now }
     requires word { AreThere net.old word.now }
     requires amount { AreThere net.old amount.now }
     ensures builds { Builds (λ w. w.items) (spec.sar word.now amount.now) net.old result net.new }
     ensures width { IfOk result (λ w. length w.items ≡ length word.now) }
     ensures inside { IfOk result (λ w. AreThere net.new w.items) }
-    ensures longer { length net.old.gates ≤ length net.new.gates }
+    ensures longer { length net.old ≤ length net.new }
 {
     let top = word[word.len() - 1];
     shift(alloc, net, Toward::Bottom, top, word, amount)
@@ -78,19 +78,19 @@ pub fn sar(
 /// For each bit of the amount, the word moved by twice as many places.
 fn shift(
     alloc: Global,
-    net: &mut NetBuilder,
+    net: &mut GateList,
     toward: Toward,
     fill: Node,
     word: &[Node],
     amount: &[Node],
-) -> Result<Vec<Node>, NetFault>
-    requires fill { fill < length net.old.gates }
+) -> Result<Vec<Node>, GateFault>
+    requires fill { fill < length net.old }
     requires word { AreThere net.old word.now }
     requires amount { AreThere net.old amount.now }
     ensures builds { Builds (λ w. w.items) (spec.shift_from toward fill 0 word.now amount.now) net.old result net.new }
     ensures width { IfOk result (λ w. length w.items ≡ length word.now) }
     ensures inside { IfOk result (λ w. AreThere net.new w.items) }
-    ensures longer { length net.old.gates ≤ length net.new.gates }
+    ensures longer { length net.old ≤ length net.new }
 {
     let mut shifted = Vec::from_slice(alloc, word)?;
     let mut distance = 1;
@@ -109,7 +109,7 @@ fn moved(
     fill: Node,
     distance: usize,
     word: &[Node],
-) -> Result<Vec<Node>, NetFault>
+) -> Result<Vec<Node>, GateFault>
     ensures items { IfOk result (λ w. w.items ≡ spec.moved toward fill distance word.now) }
     ensures fault { IfErr result (λ fault. fault ≡ Memory) }
 {
@@ -125,7 +125,7 @@ pub(crate) fn raise(
     fill: Node,
     distance: usize,
     word: &[Node],
-) -> Result<Vec<Node>, NetFault>
+) -> Result<Vec<Node>, GateFault>
     ensures items { IfOk result (λ w. w.items ≡ raised fill distance word.now) }
     ensures fault { IfErr result (λ fault. fault ≡ Memory) }
 {
@@ -137,7 +137,7 @@ pub(crate) fn raise(
 }
 
 /// The word moved down by places.
-fn lower(alloc: Global, fill: Node, distance: usize, word: &[Node]) -> Result<Vec<Node>, NetFault>
+fn lower(alloc: Global, fill: Node, distance: usize, word: &[Node]) -> Result<Vec<Node>, GateFault>
     ensures items { IfOk result (λ w. w.items ≡ lowered fill distance word.now) }
     ensures fault { IfErr result (λ fault. fault ≡ Memory) }
 {

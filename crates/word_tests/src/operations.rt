@@ -1,7 +1,7 @@
 //! Each operation, and what it is worth.
 
-use crate::reading::{are_worth, finished, ports, two};
-use net_core::{FlatNet, NetFault, Node};
+use crate::reading::{are_worth, leaves, two};
+use net_gates::{GateFault, GateList, Node};
 use net_view::Gate;
 use net_words::{
     Bitwise, add, all, any, bit, each, eq, inverted, lt, lt_signed, mul, mux, neg, parity, put,
@@ -17,7 +17,7 @@ const I: Tern = Tern::One;
 
 const X: Tern = Tern::Unsettled;
 
-/// The ports a0, a1, b0 and b1: a is 1 and b is 3.
+/// The leaves a0, a1, b0 and b1: a is 1 and b is 3.
 const ONE_THREE: [Tern; 4] = [I, O, I, I];
 
 /// a is X in its low bit and 0 in the other, b is 1.
@@ -33,77 +33,68 @@ const THREE_MOVING: [Tern; 4] = [I, I, X, O];
 const MOVING_TWO: [Tern; 4] = [X, O, O, I];
 
 /// `a + b` and `a - b`.
-fn sums(alloc: Global) -> Result<(FlatNet, [Node; 4]), NetFault> {
-    let (mut net, a, b) = ports(alloc)?;
+fn sums(alloc: Global) -> Result<(GateList, [Node; 4]), GateFault> {
+    let (mut net, a, b) = leaves(alloc)?;
     let sum = two(add(alloc, &mut net, &a, &b)?);
     let difference = two(sub(alloc, &mut net, &a, &b)?);
-    Ok((
-        finished(net),
-        [sum[0], sum[1], difference[0], difference[1]],
-    ))
+    Ok((net, [sum[0], sum[1], difference[0], difference[1]]))
 }
 
 /// `-a` and `a * b`.
-fn products(alloc: Global) -> Result<(FlatNet, [Node; 4]), NetFault> {
-    let (mut net, a, b) = ports(alloc)?;
+fn products(alloc: Global) -> Result<(GateList, [Node; 4]), GateFault> {
+    let (mut net, a, b) = leaves(alloc)?;
     let negation = two(neg(alloc, &mut net, &a)?);
     let product = two(mul(alloc, &mut net, &a, &b)?);
-    Ok((
-        finished(net),
-        [negation[0], negation[1], product[0], product[1]],
-    ))
+    Ok((net, [negation[0], negation[1], product[0], product[1]]))
 }
 
 /// `a << b`, `a >> b` and `a >>> b`.
-fn shifts(alloc: Global) -> Result<(FlatNet, [Node; 6]), NetFault> {
-    let (mut net, a, b) = ports(alloc)?;
+fn shifts(alloc: Global) -> Result<(GateList, [Node; 6]), GateFault> {
+    let (mut net, a, b) = leaves(alloc)?;
     let left = two(shl(alloc, &mut net, &a, &b)?);
     let right = two(shr(alloc, &mut net, &a, &b)?);
     let signed = two(sar(alloc, &mut net, &a, &b)?);
     Ok((
-        finished(net),
+        net,
         [left[0], left[1], right[0], right[1], signed[0], signed[1]],
     ))
 }
 
 /// `a == b`, and `a < b` without and with signs.
-fn comparisons(alloc: Global) -> Result<(FlatNet, [Node; 3]), NetFault> {
-    let (mut net, a, b) = ports(alloc)?;
+fn comparisons(alloc: Global) -> Result<(GateList, [Node; 3]), GateFault> {
+    let (mut net, a, b) = leaves(alloc)?;
     let equal = eq(alloc, &mut net, &a, &b)?;
     let less = lt(&mut net, &a, &b)?;
     let signed = lt_signed(alloc, &mut net, &a, &b)?;
-    Ok((finished(net), [equal, less, signed]))
+    Ok((net, [equal, less, signed]))
 }
 
 /// The OR, the AND and the XOR of the bits of a, and the OR of none.
-fn reductions(alloc: Global) -> Result<(FlatNet, [Node; 4]), NetFault> {
-    let (mut net, a, _) = ports(alloc)?;
+fn reductions(alloc: Global) -> Result<(GateList, [Node; 4]), GateFault> {
+    let (mut net, a, _) = leaves(alloc)?;
     let or = any(&mut net, &a)?;
     let and = all(&mut net, &a)?;
     let xor = parity(&mut net, &a)?;
     let no_or = any(&mut net, &[])?;
-    Ok((finished(net), [or, and, xor, no_or]))
+    Ok((net, [or, and, xor, no_or]))
 }
 
 /// `~a`, and `a0 ? a : b`.
-fn words(alloc: Global) -> Result<(FlatNet, [Node; 4]), NetFault> {
-    let (mut net, a, b) = ports(alloc)?;
+fn words(alloc: Global) -> Result<(GateList, [Node; 4]), GateFault> {
+    let (mut net, a, b) = leaves(alloc)?;
     let inverse = two(inverted(alloc, &mut net, &a)?);
     let chosen = two(select(alloc, &mut net, a[0], &a, &b)?);
-    Ok((
-        finished(net),
-        [inverse[0], inverse[1], chosen[0], chosen[1]],
-    ))
+    Ok((net, [inverse[0], inverse[1], chosen[0], chosen[1]]))
 }
 
 /// `a ~^ b`, `a0 & b0`, `~a0`, and `a0 ? a1 : b1`.
-fn bits(alloc: Global) -> Result<(FlatNet, [Node; 5]), NetFault> {
-    let (mut net, a, b) = ports(alloc)?;
+fn bits(alloc: Global) -> Result<(GateList, [Node; 5]), GateFault> {
+    let (mut net, a, b) = leaves(alloc)?;
     let same = two(each(alloc, &mut net, Bitwise::Xnor, &a, &b)?);
     let both = bit(&mut net, Bitwise::And, a[0], b[0])?;
     let inverse = put(&mut net, Gate::Not(a[0]))?;
     let chosen = mux(&mut net, a[0], a[1], b[1])?;
-    Ok((finished(net), [same[0], same[1], both, inverse, chosen]))
+    Ok((net, [same[0], same[1], both, inverse, chosen]))
 }
 
 #[test]

@@ -8,6 +8,6 @@ abbrev pub invariant-loop-i : goal.invariant-loop-i
 invariant-loop-i l = record {
   left : IsLeft (rows l.low l.fn.first.items l.a 0 l.b) l.fn.net l.net (rows l.low l.total.items l.a l.i (drop l.i l.b));
   there : AreThere l.net l.total.items;
-  longer : length l.fn.net.gates ≤ length l.net.gates;
+  longer : length l.fn.net ≤ length l.net;
   width : length l.total.items ≡ length l.a;
 }

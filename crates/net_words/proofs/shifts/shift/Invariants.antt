@@ -8,7 +8,7 @@ abbrev pub invariant-loop-i : goal.invariant-loop-i
 invariant-loop-i l = record {
   left : IsLeft (shift_from l.toward l.fill 0 l.word l.amount) l.fn.net l.net (shift_from l.toward l.fill l.i l.shifted.items (drop l.i l.amount));
   there : AreThere l.net l.shifted.items;
-  longer : length l.fn.net.gates ≤ length l.net.gates;
+  longer : length l.fn.net ≤ length l.net;
   width : length l.shifted.items ≡ length l.word;
   distance : min l.distance (length l.shifted.items) ≡ min (2 ^ l.i) (length l.shifted.items);
 }

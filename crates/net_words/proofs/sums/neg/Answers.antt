@@ -5,7 +5,7 @@ use Rattle.net_words.proofs.BuildLemmas.{all_left, next, fault, last}
 use Rattle.net_words.proofs.sums.neg.Goals as goal
 
 pub sub-requires-clause-a : goal.sub-requires-clause-a
-sub-requires-clause-a c = rw (c.as_slice.ensures.value, c.in_ok-zeros.ensures.items) (All-replicate (λ n. n < length c.put.new.net.gates) (length c.args.a.now) c.in_ok-zero.zero c.in_ok-zero.ensures.inside)
+sub-requires-clause-a c = rw (c.as_slice.ensures.value, c.in_ok-zeros.ensures.items) (All-replicate (λ n. n < length c.put.new.net) (length c.args.a.now) c.in_ok-zero.zero c.in_ok-zero.ensures.inside)
 
 pub returns-in_err-zero-clause-builds : goal.returns-in_err-zero-clause-builds
 unfolding neg

@@ -10,7 +10,7 @@ pub loop-i-init : goal.loop-i-init
 loop-i-init c = rw c.new-made.ensures.items (record {
   left = no_bits (sum c.args.first c.args.a.now c.args.b.now) c.args.net.now;
   carry = c.requires.first;
-  there = All-nil (λ n. n < length c.args.net.now.gates);
+  there = All-nil (λ n. n < length c.args.net.now);
   longer = omega arith;
   count = omega arith;
 })

@@ -7,8 +7,8 @@ use Rattle.net_words.proofs.sums.sum.Given as goal
 abbrev pub invariant-loop-i : goal.invariant-loop-i
 invariant-loop-i l = record {
   left : IsLeft (sum l.fn.first l.a l.b) l.fn.net l.net (behind l.made.items (sum l.carry (drop l.i l.a) (drop l.i l.b)));
-  carry : l.carry < length l.net.gates;
+  carry : l.carry < length l.net;
   there : AreThere l.net l.made.items;
-  longer : length l.fn.net.gates ≤ length l.net.gates;
+  longer : length l.fn.net ≤ length l.net;
   count : length l.made.items ≡ l.i;
 }

@@ -9,7 +9,7 @@ use Rattle.net_words.proofs.words.each.Goals as goal
 pub loop-i-init : goal.loop-i-init
 loop-i-init c = rw c.new-made.ensures.items (record {
   left = no_bits (each c.args.op c.args.a.now c.args.b.now) c.args.net.now;
-  there = All-nil (λ n. n < length c.args.net.now.gates);
+  there = All-nil (λ n. n < length c.args.net.now);
   longer = omega arith;
   count = omega arith;
 })

@@ -8,6 +8,6 @@ abbrev pub invariant-loop-i : goal.invariant-loop-i
 invariant-loop-i l = record {
   left : IsLeft (inverted l.word) l.fn.net l.net (behind l.made.items (inverted (drop l.i l.word)));
   there : AreThere l.net l.made.items;
-  longer : length l.fn.net.gates ≤ length l.net.gates;
+  longer : length l.fn.net ≤ length l.net;
   count : length l.made.items ≡ l.i;
 }
