@@ -8,3 +8,4 @@ pub mod Laws
 pub mod Names
 pub mod Alike
 pub mod Views
+pub mod Starts

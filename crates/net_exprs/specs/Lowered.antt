@@ -70,18 +70,25 @@ unfoldable pub joined_width : List Lowered → ℕ
 joined_width [] = 0
 joined_width (a ∷ members) = joined_width members + a.shape.width
 
+-- n bits by an index, which stands alone
+unfoldable pub picked_by : Part → Wired → ℕ → Lowered → Build (List ℕ)
+picked_by how v n i = built_alone i >>= picked how v n i.shape
+
 -- name [ i ]
 abbrev pub index_formed : Wired → Lowered → Formed
-index_formed v i = fixed bit (built_alone i >>= picked Down v 1 i.shape)
+index_formed v i = fixed bit (picked_by Down v 1 i)
 
 -- name [ i : j ], name [ i +: j ], name [ i -: j ]
 unfoldable pub select_width : Bounds → Part → Expr → Expr → ℕ
 select_width r Fixed i j = part_width r (number_alone i) (number_alone j)
 select_width r how i j = count_alone j
 
+abbrev pub fixed_part : Wired → Expr → Expr → Build (List ℕ)
+fixed_part v i j = part v (number_alone i) (number_alone j)
+
 unfoldable pub select_word : Wired → Part → Expr → Lowered → Expr → Build (List ℕ)
-select_word v Fixed i _ j = part v (number_alone i) (number_alone j)
-select_word v how _ i j = built_alone i >>= picked how v (count_alone j) i.shape
+select_word v Fixed i _ j = fixed_part v i j
+select_word v how _ i j = picked_by how v (count_alone j) i
 
 abbrev pub select_formed : Wired → Part → Expr → Lowered → Expr → Formed
 select_formed v how i a j = fixed (unsigned (select_width v.range how i j)) (select_word v how i a j)
@@ -92,8 +99,13 @@ brackets_formed a = record { shape = a.shape; gates = a.word }
 abbrev pub concat_formed : List Lowered → Formed
 concat_formed members = fixed (unsigned (joined_width members)) (joined members)
 
+unfoldable pub repeated : ℕ → List Lowered → Build (List ℕ)
+repeated n members = do
+  w ← joined members
+  return (copies n w)
+
 abbrev pub repeat_formed : ℕ → List Lowered → Formed
-repeat_formed n members = fixed (repeated_shape n (unsigned (joined_width members))) (joined members >>= (λ w. return (copies n w)))
+repeat_formed n members = fixed (repeated_shape n (unsigned (joined_width members))) (repeated n members)
 
 abbrev pub unary_formed : Unary → Lowered → Formed
 unary_formed op a = record { shape = unary_shape op a.shape; gates = λ c. a.word (unary_context op a.shape c) >>= before op c }

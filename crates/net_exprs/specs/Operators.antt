@@ -4,15 +4,17 @@
 --   before op c a                an operator before its operand
 --   less signed a b              a < b
 --   between op signed c a b      an operator between its operands; both are signed, where they are compared
-use Rattle.std.specs.Prelude.{ℕ, Bool, true, false, if◌then◌else◌, List, [], ◌∷◌}
+use Rattle.std.specs.Prelude.{ℕ, Bool, true, false, List, [], ◌∷◌}
 use Rattle.vlog_tree.specs.declared.operator.Unary.{Unary}
 use Rattle.vlog_tree.specs.declared.operator.Unary.TheVariants as unary
 use Rattle.vlog_tree.specs.declared.operator.Binary.{Binary}
 use Rattle.vlog_tree.specs.declared.operator.Binary.TheVariants as binary
 use Rattle.vlog_const.specs.declared.shape.Shape.{Shape}
-use Rattle.net_view.specs.declared.gate.Gate.TheVariants.{Const, Not, And, Or}
+use Rattle.net_view.specs.declared.gate.Gate.TheVariants.{Const, Not}
+use Rattle.net_words.specs.declared.bits.Bitwise.{Bitwise}
 use Rattle.net_words.specs.declared.bits.Bitwise.TheVariants as op
 use Rattle.net_words.specs.Builds.{Build, ◌>>=◌, return, put}
+use Rattle.net_words.specs.Bits.{bit as gate}
 use Rattle.net_words.specs.Words.{inverted, each, any, all, parity}
 use Rattle.net_words.specs.Sums.{add, sub, neg}
 use Rattle.net_words.specs.Products.{mul}
@@ -65,17 +67,12 @@ compared binary.NotEqual signed a b = not_after (eq a b)
 compared binary.CaseNotEqual signed a b = not_after (eq a b)
 compared _ signed a b = put (Const false)
 
--- `&&` and `||` of two bits
-abbrev pub logical_gate : Binary → ℕ → ℕ → Build ℕ
-logical_gate binary.LogicalAnd x y = put (And x y)
-logical_gate _ x y = put (Or x y)
-
--- the same over the OR of all bits of each operand
-unfoldable pub logical : Binary → List ℕ → List ℕ → Build ℕ
-logical op a b = do
+-- `&&` and `||`: of the OR of all bits of each operand
+unfoldable pub logical : Bitwise → List ℕ → List ℕ → Build ℕ
+logical o a b = do
   x ← any a
   y ← any b
-  logical_gate op x y
+  gate o x y
 
 -- down, filled with the top bit where there is one
 unfoldable pub filled : List ℕ → List ℕ → Build (List ℕ)
@@ -111,5 +108,5 @@ between binary.And signed c a b = each op.And a b
 between binary.Xor signed c a b = each op.Xor a b
 between binary.Xnor signed c a b = each op.Xnor a b
 between binary.Or signed c a b = each op.Or a b
-between binary.LogicalAnd signed c a b = one_bit c (logical binary.LogicalAnd a b)
-between binary.LogicalOr signed c a b = one_bit c (logical binary.LogicalOr a b)
+between binary.LogicalAnd signed c a b = one_bit c (logical op.And a b)
+between binary.LogicalOr signed c a b = one_bit c (logical op.Or a b)

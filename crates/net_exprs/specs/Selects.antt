@@ -90,6 +90,12 @@ term (Some h) (Some b) = do
 term (Some h) None = return []
 term None b = return []
 
+-- a term behind those that are there
+unfoldable pub with_term : List ℕ → Option ℕ → Option ℕ → Build (List ℕ)
+with_term found h b = do
+  first ← term h b
+  return (found ++ first)
+
 -- the terms of bit j over the starts from number i up
 unfoldable pub terms : List (Option ℕ) → Bounds → List ℕ → ℕ → ℕ → ℕ → Build (List ℕ)
 terms [] r w n i j = return []
@@ -113,7 +119,10 @@ picked_from hits r w n j (suc m) = do
   return (b ∷ rest)
 
 -- the select of n bits by an index e of shape s
-unfoldable pub picked : Part → Wired → ℕ → Shape → List ℕ → Build (List ℕ)
-picked part v n s e = do
-  hits ← hits_from part v.range n s e 0 (starts v.range n)
-  picked_from hits v.range v.nodes n 0 n
+unfoldable pub picked_of : Part → Bounds → List ℕ → ℕ → Shape → List ℕ → Build (List ℕ)
+picked_of part r w n s e = do
+  hits ← hits_from part r n s e 0 (starts r n)
+  picked_from hits r w n 0 n
+
+abbrev pub picked : Part → Wired → ℕ → Shape → List ℕ → Build (List ℕ)
+picked part v n s e = picked_of part v.range v.nodes n s e

@@ -1,53 +1,60 @@
 //! Constants in a net, and the parts of expressions that are constants.
-ghost use Rattle.std.specs.Prelude.{◌≡◌, ◌<◌, ◌≤◌, length, if◌then◌else◌, IfOk};
-ghost use Rattle.rdc_tern.specs.Words.{inverted};
+ghost use Rattle.std.specs.Prelude.{◌≡◌, ◌<◌, ◌≤◌, length, IfOk, IfErr};
 ghost use Rattle.vlog_const.specs.Names.{no_values};
 ghost use Rattle.vlog_const.specs.Constants.{value_in};
-ghost use Rattle.design_form.specs.Bits.{bits};
 ghost use Rattle.design_form.specs.Extents.{shape_of};
-ghost use Rattle.design_form.specs.Values.{count_alone, is_computed, number_alone};
+ghost use Rattle.design_form.specs.Values.{constant_bits, count_alone, is_computed, number_alone};
+ghost use Rattle.net_gates.specs.declared.fault.GateFault.TheVariants.{Memory};
 ghost use Rattle.net_words.specs.Builds.{Builds, AreThere};
-ghost use Rattle.net_exprs.specs.Constants.{constants, IsValue};
+ghost use Rattle.net_exprs.specs.Constants.{constants, is_one, lowest_bit, start_bits, IsValue};
 
 use design_form::Extent;
-use net_core::{NetBuilder, NetFault, Node};
+use net_gates::{GateFault, GateList, Node};
 use net_view::Gate;
 use net_words::put;
 use std::alloc::Global;
 use vlog_const::{ConstFault, ConstValue, Env, Shape, Whole, is_division, is_power, value, value_in};
 use vlog_tree::{Binary, Expr};
 
+/// Whether the lowest bit of a number, or its inverse, is 1.
+fn lowest(number: u128, inverse: bool) -> bool
+    ensures { result ≡ is_one (lowest_bit inverse number) }
+{
+    (number % 2 == 1) != inverse
+}
+
 /// A node for each of the lowest bits of a number, or for the inverse of each.
 pub(crate) fn constant(
     alloc: Global,
-    net: &mut NetBuilder,
+    net: &mut GateList,
     width: usize,
     number: u128,
     inverse: bool,
-) -> Result<Vec<Node>, NetFault>
-    ensures builds { Builds (λ w. w.items) (constants (if inverse then inverted (bits width number) else bits width number)) net.old result net.new }
+) -> Result<Vec<Node>, GateFault>
+    ensures builds { Builds (λ w. w.items) (constants (start_bits inverse number width)) net.old result net.new }
     ensures width { IfOk result (λ w. length w.items ≡ width) }
     ensures inside { IfOk result (λ w. AreThere net.new w.items) }
-    ensures longer { length net.old.gates ≤ length net.new.gates }
+    ensures longer { length net.old ≤ length net.new }
 {
-    let mut word = Vec::new(alloc);
-    let mut left = number;
+    let mut made = Vec::new(alloc);
+    let mut rest = number;
     for place in 0..width {
-        let bit = put(net, Gate::Const((left % 2 == 1) != inverse))?;
-        word.push(bit)?;
-        left /= 2;
+        let bit = put(net, Gate::Const(lowest(rest, inverse)))?;
+        made.push(bit)?;
+        rest /= 2;
     }
-    Ok(word)
+    Ok(made)
 }
 
 /// What an expression is as a number, or 0 where it is no constant.
 #[tactic(auto, unfolding(design_form::specs::Values::number_of))]
-pub(crate) fn number(alloc: Global, e: &Expr) -> Result<Whole, NetFault>
-    ensures { IfOk result (λ n. n ≡ number_alone e.now) }
+pub(crate) fn number(alloc: Global, e: &Expr) -> Result<Whole, GateFault>
+    ensures value { IfOk result (λ n. n ≡ number_alone e.now) }
+    ensures fault { IfErr result (λ fault. fault ≡ Memory) }
 {
     match value(alloc, e, &Env::new(alloc)) {
         Ok(value) => Ok(Whole::of(value)),
-        Err(ConstFault::Memory) => Err(NetFault::Memory),
+        Err(ConstFault::Memory) => Err(GateFault::Memory),
         Err(_) => Ok(Whole {
             negative: false,
             magnitude: 0,
@@ -56,8 +63,9 @@ pub(crate) fn number(alloc: Global, e: &Expr) -> Result<Whole, NetFault>
 }
 
 /// What an expression is as a count, or 0 where it is no constant.
-pub(crate) fn count(alloc: Global, e: &Expr) -> Result<u128, NetFault>
-    ensures { IfOk result (λ n. n ≡ count_alone e.now) }
+pub(crate) fn count(alloc: Global, e: &Expr) -> Result<u128, GateFault>
+    ensures value { IfOk result (λ n. n ≡ count_alone e.now) }
+    ensures fault { IfErr result (λ fault. fault ≡ Memory) }
 {
     Ok(number(alloc, e)?.count())
 }
@@ -75,8 +83,9 @@ pub(crate) fn known(
     alloc: Global,
     e: &Expr,
     context: Extent,
-) -> Result<Option<ConstValue>, NetFault>
-    ensures { IfOk result (λ v. IsValue v (value_in no_values (shape_of context) e.now)) }
+) -> Result<Option<ConstValue>, GateFault>
+    ensures value { IfOk result (λ v. IsValue v (value_in no_values (shape_of context) e.now)) }
+    ensures fault { IfErr result (λ fault. fault ≡ Memory) }
 {
     if 128 < context.width {
         return Ok(None);
@@ -87,7 +96,25 @@ pub(crate) fn known(
     };
     match value_in(alloc, e, &Env::new(alloc), shape) {
         Ok(value) => Ok(Some(value)),
-        Err(ConstFault::Memory) => Err(NetFault::Memory),
+        Err(ConstFault::Memory) => Err(GateFault::Memory),
         Err(_) => Ok(None),
+    }
+}
+
+/// What `/`, `%` and `**` give: the value in a context, or 0 where there is none.
+pub(crate) fn computed(
+    alloc: Global,
+    net: &mut GateList,
+    e: &Expr,
+    context: Extent,
+) -> Result<Vec<Node>, GateFault>
+    ensures builds { Builds (λ w. w.items) (constants (constant_bits context.width (value_in no_values (shape_of context) e.now))) net.old result net.new }
+    ensures width { IfOk result (λ w. length w.items ≡ context.width) }
+    ensures inside { IfOk result (λ w. AreThere net.new w.items) }
+    ensures longer { length net.old ≤ length net.new }
+{
+    match known(alloc, e, context)? {
+        Some(value) => constant(alloc, net, context.width, value.bits, false),
+        None => constant(alloc, net, context.width, 0, false),
     }
 }

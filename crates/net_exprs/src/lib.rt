@@ -8,8 +8,10 @@
 
 mod constants;
 mod extensions;
+mod forms;
 mod lowering;
 mod operators;
+mod picks;
 mod selects;
 mod sizes;
 mod wired;

@@ -1,0 +1,50 @@
+-- Serves src/lowering.rt and src/forms.rt: what a call builds, said of what is the same.
+use Rattle.std.proofs.Common.{◌≡◌, ℕ, List, Result, Ok, Err, IfOk, IfErr, refl, sym, ap, subst, ◌∙◌}
+use Rattle.vlog_tree.specs.declared.expr.Expr.{Expr}
+use Rattle.vlog_tree.specs.declared.expr.Part.{Part}
+use Rattle.vlog_tree.specs.declared.expr.Part.TheVariants.{Fixed, Up, Down}
+use Rattle.vlog_const.specs.declared.shape.Shape.{Shape}
+use Rattle.design_form.specs.Values.{count_alone}
+use Rattle.net_view.specs.View.{Numbered}
+use Rattle.net_gates.specs.declared.fault.GateFault.{GateFault}
+use Rattle.net_gates.specs.declared.fault.GateFault.TheVariants.{Memory}
+use Rattle.vlog_const.specs.declared.whole.Whole.{Whole}
+use Rattle.design_form.specs.Selects.{part_width}
+use Rattle.net_words.specs.Builds.{Build, Builds, ◌>>=◌, return}
+use Rattle.net_words.proofs.BuildLemmas.{IsLeft, done, begins_itself}
+use Rattle.net_exprs.specs.Selects.{part, part_from}
+use Rattle.net_exprs.specs.Wired.{Wired}
+use Rattle.net_exprs.specs.Lowered.{Lowered, picked_by, select_word}
+
+pub same_build : {A X : Type 0} {f : A → X} {old new : List Numbered} {r : Result A GateFault} (b b' : Build X) → b ≡ b' → Builds f b old r new → Builds f b' old r new
+same_build {f = f} {old = old} {new = new} {r = r} b b' same built = subst (λ (z : Build _). Builds f z old r new) same built
+
+pub in_shape : {A : Type 0} {f : A → List ℕ} {old new : List Numbered} {r : Result A GateFault} (a : Lowered) (s t : Shape) → s ≡ t → Builds f (a.word s) old r new → Builds f (a.word t) old r new
+in_shape a s t same built = same_build (a.word s) (a.word t) (ap a.word same) built
+
+pub in_view : {A : Type 0} {f : A → List ℕ} {old new : List Numbered} {r : Result A GateFault} (how : Part) (v w : Wired) (n m : ℕ) (a : Lowered) → v ≡ w → n ≡ m
+    → Builds f (picked_by how v n a) old r new → Builds f (picked_by how w m a) old r new
+in_view how v w n m a same wide built = same_build (picked_by how v n a) (picked_by how w m a) (ap (λ (x : Wired). picked_by how x n a) same ∙ ap (λ (k : ℕ). picked_by how w k a) wide) built
+
+pub moving : (v : Wired) (how : Part) (i j : Expr) (a : Lowered) → (how ≡ Fixed → ⊥) → picked_by how v (count_alone j) a ≡ select_word v how i a j
+unfolding select_word
+moving v Fixed i j a moves = absurd (moves refl)
+moving v Up i j a moves = refl
+moving v Down i j a moves = refl
+
+-- what takes memory alone
+pub taken : {A X : Type 0} (f : A → X) {all : Build X} {old now : List Numbered} (x : X) (r : Result A GateFault) → IsLeft all old now (return x) → IfOk r (λ a. f a ≡ x) → IfErr r (λ e. e ≡ Memory) → Builds f all old r now
+taken f {all} {old} {now} x (Ok a) left items fault = done f a (subst (λ y. IsLeft all old now (return y)) (sym items) left)
+taken f {all} {old} {now} x (Err e) left items fault = subst (λ (g : GateFault). Builds f all old (Err g) now) (sym fault) (record { front = left.front; answers = tt })
+
+-- what is there already
+pub there_already : {X Y : Type 0} (net : List Numbered) (x : X) (k : X → Build Y) → IsLeft (return x >>= k) net net (k x)
+unfolding ◌>>=◌ return
+there_already net x k = record { front = begins_itself net; left = refl }
+
+pub part_same : (v w : Wired) (i j from to : Whole) (n : ℕ) → v ≡ w → from ≡ i → to ≡ j → n ≡ part_width v.range from to → part_from v.range v.nodes to 0 n ≡ part w i j
+part_same v w i j from to n same one other wide =
+    ap (part_from v.range v.nodes to 0) wide
+    ∙ ap (λ (x : Whole). part_from v.range v.nodes to 0 (part_width v.range x to)) one
+    ∙ ap (λ (y : Whole). part_from v.range v.nodes y 0 (part_width v.range i y)) other
+    ∙ ap (λ (z : Wired). part z i j) same
