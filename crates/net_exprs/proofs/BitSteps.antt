@@ -139,10 +139,6 @@ unfolding copies
 copies_there zero w limit there = All-nil (λ k. k < limit)
 copies_there (suc n) w limit there = All-append (λ k. k < limit) w (copies n w) there (copies_there n w limit there)
 
-pub copied_there : {A E : Type 0} (f : A → List ℕ) (r : Result A E) (n : ℕ) (w : List ℕ) (limit : ℕ) → IfOk r (λ a. f a ≡ copies n w) → All (λ k. k < limit) w → IfOk r (λ a. All (λ k. k < limit) (f a))
-copied_there f (Ok a) n w limit items there = subst (λ (x : List ℕ). All (λ k. k < limit) x) (sym items) (copies_there n w limit there)
-copied_there f (Err e) n w limit items there = tt
-
 pub copies-more : (n k : ℕ) (w : List ℕ) → k < n → copies (n - k) w ≡ w ++ copies (n - (k + 1)) w
 unfolding copies
 copies-more n k w h =

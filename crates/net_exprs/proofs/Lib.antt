@@ -7,3 +7,6 @@ pub mod PickSteps
 pub mod NameSteps
 pub mod LoweringSteps
 pub mod Transport
+pub mod FormWorths
+pub mod PickWorths
+pub mod ExprWorths

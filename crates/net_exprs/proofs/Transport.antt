@@ -1,5 +1,5 @@
 -- Serves src/lowering.rt and src/forms.rt: what a call builds, said of what is the same.
-use Rattle.std.proofs.Common.{◌≡◌, ℕ, List, Result, Ok, Err, IfOk, IfErr, refl, sym, ap, subst, ◌∙◌}
+use Rattle.std.proofs.Common.{◌≡◌, ℕ, List, Option, Some, None, Result, refl, sym, ap, subst, ◌∙◌}
 use Rattle.vlog_tree.specs.declared.expr.Expr.{Expr}
 use Rattle.vlog_tree.specs.declared.expr.Part.{Part}
 use Rattle.vlog_tree.specs.declared.expr.Part.TheVariants.{Fixed, Up, Down}
@@ -7,14 +7,14 @@ use Rattle.vlog_const.specs.declared.shape.Shape.{Shape}
 use Rattle.design_form.specs.Values.{count_alone}
 use Rattle.net_view.specs.View.{Numbered}
 use Rattle.net_gates.specs.declared.fault.GateFault.{GateFault}
-use Rattle.net_gates.specs.declared.fault.GateFault.TheVariants.{Memory}
 use Rattle.vlog_const.specs.declared.whole.Whole.{Whole}
 use Rattle.design_form.specs.Selects.{part_width}
-use Rattle.net_words.specs.Builds.{Build, Builds, ◌>>=◌, return}
-use Rattle.net_words.proofs.BuildLemmas.{IsLeft, done, begins_itself}
+use Rattle.net_words.specs.Builds.{Built, Build, Builds, onward, ◌>>=◌, return}
+use Rattle.net_words.proofs.BuildLemmas.{IsLeft, begins_itself}
 use Rattle.net_exprs.specs.Selects.{part, part_from}
 use Rattle.net_exprs.specs.Wired.{Wired}
-use Rattle.net_exprs.specs.Lowered.{Lowered, picked_by, select_word}
+use Rattle.net_exprs.specs.Extensions.{extended, copies}
+use Rattle.net_exprs.specs.Lowered.{Lowered, picked_by, select_word, joined, repeated}
 
 pub same_build : {A X : Type 0} {f : A → X} {old new : List Numbered} {r : Result A GateFault} (b b' : Build X) → b ≡ b' → Builds f b old r new → Builds f b' old r new
 same_build {f = f} {old = old} {new = new} {r = r} b b' same built = subst (λ (z : Build _). Builds f z old r new) same built
@@ -32,10 +32,15 @@ moving v Fixed i j a moves = absurd (moves refl)
 moving v Up i j a moves = refl
 moving v Down i j a moves = refl
 
--- what takes memory alone
-pub taken : {A X : Type 0} (f : A → X) {all : Build X} {old now : List Numbered} (x : X) (r : Result A GateFault) → IsLeft all old now (return x) → IfOk r (λ a. f a ≡ x) → IfErr r (λ e. e ≡ Memory) → Builds f all old r now
-taken f {all} {old} {now} x (Ok a) left items fault = done f a (subst (λ y. IsLeft all old now (return y)) (sym items) left)
-taken f {all} {old} {now} x (Err e) left items fault = subst (λ (g : GateFault). Builds f all old (Err g) now) (sym fault) (record { front = left.front; answers = tt })
+copied : (n : ℕ) (k : List ℕ → Build (List ℕ)) (o : Option (Built (List ℕ)))
+    → onward o (λ w. k (copies n w)) ≡ onward (onward o (λ w gates. Some (record { gates = gates; made = copies n w }))) k
+copied n k None = refl
+copied n k (Some built) = refl
+
+-- members are built once
+pub repeat_first : (n : ℕ) (ms : List Lowered) (c : Shape) (net : List Numbered) → IsLeft (repeated n ms >>= extended c) net net (joined ms >>= (λ w. extended c (copies n w)))
+unfolding repeated ◌>>=◌ return
+repeat_first n ms c net = record { front = begins_itself net; left = copied n (extended c) (joined ms net) }
 
 -- what is there already
 pub there_already : {X Y : Type 0} (net : List Numbered) (x : X) (k : X → Build Y) → IsLeft (return x >>= k) net net (k x)

@@ -253,28 +253,9 @@ fn repeat(
     ensures longer { length net.old ≤ length net.new }
 {
     let number = count(alloc, number)?;
-    let all = repeated(alloc, net, design, nodes, number, members)?;
-    extended(net, all, context)
-}
-
-/// So many copies of members, which are built once.
-#[cycle(gates)]
-fn repeated(
-    alloc: Global,
-    net: &mut GateList,
-    design: &Design,
-    nodes: &[Node],
-    number: u128,
-    members: &[Expr],
-) -> Result<Vec<Node>, GateFault>
-    requires has { HasNodes design.now nodes.now }
-    requires nodes { AreThere net.old nodes.now }
-    ensures builds { Builds (λ w. w.items) (spec.repeated number (map (spec.lowered (wired_in design.now nodes.now)) members.now)) net.old result net.new }
-    ensures inside { IfOk result (λ w. AreThere net.new w.items) }
-    ensures longer { length net.old ≤ length net.new }
-{
     let word = joined(alloc, net, design, nodes, members)?;
-    copies(alloc, number, word.as_slice())
+    let all = copies(alloc, number, word.as_slice())?;
+    extended(net, all, context)
 }
 
 /// Members from left to right, the first one at the top.
@@ -334,6 +315,7 @@ fn unary(
 
 /// An operator between its operands, the left one first.
 #[cycle(gates)]
+#[tactic(auto, using(net_words::proofs::WordSteps::still_there))]
 fn binary(
     alloc: Global,
     net: &mut GateList,
@@ -361,6 +343,7 @@ fn binary(
 
 /// A choice, bit by bit.
 #[cycle(gates)]
+#[tactic(auto, using(net_words::proofs::WordSteps::still_there))]
 fn choice(
     alloc: Global,
     net: &mut GateList,

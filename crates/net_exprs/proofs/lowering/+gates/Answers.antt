@@ -12,7 +12,7 @@ use Rattle.net_words.specs.Builds.{Builds, Build, AreThere, ◌>>=◌}
 use Rattle.net_words.proofs.BuildLemmas.{IsLeft, all_left, next, fault, last, done}
 use Rattle.net_words.proofs.WordSteps.{still_there}
 use Rattle.net_exprs.specs.Constants.{IsValue}
-use Rattle.net_exprs.specs.Extensions.{extended}
+use Rattle.net_exprs.specs.Extensions.{extended, copies}
 use Rattle.net_exprs.specs.Operators.{before, between}
 use Rattle.net_exprs.specs.Selects.{picked_of}
 use Rattle.net_exprs.specs.Names.{wired_in}
@@ -21,8 +21,8 @@ use Rattle.net_exprs.specs.Lowered.{lowered, gates_word, choice_word, joined, re
 use Rattle.net_exprs.proofs.LoweringSteps.{of_value, of_form, sides_alike, unary_fits, joined_first, joined_here, joined_whole, turned, number_form, name_form, index_form, select_form, brackets_form, concat_form, repeat_form, unary_form, computed_form, binary_form, choice_form}
 use Rattle.net_exprs.proofs.ValueSteps.{value_tells}
 use Rattle.net_exprs.proofs.Rows.{under}
-use Rattle.net_exprs.proofs.BitSteps.{copied_there}
-use Rattle.net_exprs.proofs.Transport.{same_build, in_shape, in_view, moving, taken}
+use Rattle.net_exprs.proofs.BitSteps.{copies_there}
+use Rattle.net_exprs.proofs.Transport.{same_build, in_shape, in_view, moving, repeat_first}
 use Rattle.net_exprs.proofs.lowering.+gates.Goals as goal
 
 pub binary-returns-in_err-x-clause-builds : goal.binary-returns-in_err-x-clause-builds
@@ -32,9 +32,6 @@ binary-returns-in_err-x-clause-builds t c =
     let l = lowered names c.args.left.now in
     let r = lowered names c.args.right.now in
     fault _ _ (all_left (gates_word c.args.op l r (shape_of c.args.context)) c.args.net.now) (in_shape l _ _ (c.in_ok-sides.ensures.left c.args.nodes.now) c.in_err-x.ensures.builds) c.from_residual-in_err-x.ensures
-
-pub binary-lower-requires-2 : goal.binary-lower-requires-2
-binary-lower-requires-2 t c = (omega (arith, c.decreases), (c.requires.has, still_there c.args.net.now c.lower.new.net c.args.nodes.now c.requires.nodes c.in_ok-x.ensures.longer))
 
 pub binary-returns-in_err-y-clause-builds : goal.binary-returns-in_err-y-clause-builds
 unfolding gates_word
@@ -78,13 +75,6 @@ choice-returns-in_err-selection-clause-builds t c =
     (next _ _ (all_left (choice_word (lowered names c.args.test.now) (lowered names c.args.left.now) (lowered names c.args.right.now) (shape_of c.args.context)) c.args.net.now) c.in_ok-test.ensures.builds)
     (rw c.as_slice.ensures.value at c.in_err-selection.ensures.builds) c.from_residual-in_err-selection.ensures
 
-pub choice-lower-requires : goal.choice-lower-requires
-choice-lower-requires t c = (
-  omega (arith, c.decreases),
-  (c.requires.has,
-  still_there c.lower_alone.new.net c.any.new.net c.args.nodes.now (still_there c.args.net.now c.lower_alone.new.net c.args.nodes.now c.requires.nodes c.in_ok-test.ensures.longer) c.in_ok-selection.ensures.longer),
-)
-
 pub choice-returns-in_err-x-clause-builds : goal.choice-returns-in_err-x-clause-builds
 unfolding choice_word
 choice-returns-in_err-x-clause-builds t c =
@@ -94,15 +84,6 @@ choice-returns-in_err-x-clause-builds t c =
     (next _ _ (all_left (choice_word (lowered names c.args.test.now) (lowered names c.args.left.now) (lowered names c.args.right.now) (shape_of c.args.context)) c.args.net.now) c.in_ok-test.ensures.builds)
     (rw c.as_slice.ensures.value at c.in_ok-selection.ensures.builds))
     c.in_err-x.ensures.builds c.from_residual-in_err-x.ensures
-
-pub choice-lower-requires-2 : goal.choice-lower-requires-2
-choice-lower-requires-2 t c = (
-  omega (arith, c.decreases),
-  (c.requires.has,
-  still_there c.any.new.net c.lower.new.net c.args.nodes.now
-      (still_there c.lower_alone.new.net c.any.new.net c.args.nodes.now (still_there c.args.net.now c.lower_alone.new.net c.args.nodes.now c.requires.nodes c.in_ok-test.ensures.longer) c.in_ok-selection.ensures.longer)
-      c.in_ok-x.ensures.longer),
-)
 
 pub choice-returns-in_err-y-clause-builds : goal.choice-returns-in_err-y-clause-builds
 unfolding choice_word
@@ -185,33 +166,6 @@ picked_by-returns-clause-builds t c =
     last (next _ _ (all_left (picked_by c.args.part v c.args.width a) c.args.net.now) (in_shape a _ _ (c.in_ok-a.ensures.shape c.args.nodes.now) c.in_ok-at.ensures.builds))
     (same_build _ _ (ap (λ (s : Shape). picked_of c.args.part v.range v.nodes c.args.width s c.in_ok-at.at.items) (c.in_ok-a.ensures.shape c.args.nodes.now))
     (rw (c.as_slice.ensures.value, c.as_slice-2.ensures.value) at c.picked.ensures.builds))
-
-pub repeated-returns-in_err-word-clause-builds : goal.repeated-returns-in_err-word-clause-builds
-unfolding repeated
-repeated-returns-in_err-word-clause-builds t c =
-    fault _ _ (all_left (repeated c.args.number (map (lowered (wired_in c.args.design.now c.args.nodes.now)) c.args.members.now)) c.args.net.now) c.in_err-word.ensures.builds c.from_residual.ensures
-
-pub repeated-returns-clause-builds : goal.repeated-returns-clause-builds
-unfolding repeated
-repeated-returns-clause-builds t c =
-    taken (λ w. w.items) _ c.copies.result (next _ _ (all_left (repeated c.args.number (map (lowered (wired_in c.args.design.now c.args.nodes.now)) c.args.members.now)) c.args.net.now) c.in_ok-word.ensures.builds)
-    (rw c.as_slice.ensures.value at c.copies.ensures.items) c.copies.ensures.fault
-
-pub repeat-repeated-requires : goal.repeat-repeated-requires
-repeat-repeated-requires t c = (omega (arith, c.decreases), (c.requires.has, c.requires.nodes))
-
-pub repeat-returns-in_err-all-clause-builds : goal.repeat-returns-in_err-all-clause-builds
-repeat-returns-in_err-all-clause-builds t c =
-    let ms = map (lowered (wired_in c.args.design.now c.args.nodes.now)) c.args.members.now in
-    fault _ _ (all_left (repeated (count_alone c.args.number.now) ms >>= extended (shape_of c.args.context)) c.args.net.now)
-    (same_build _ (repeated (count_alone c.args.number.now) ms) (ap (λ (n : ℕ). repeated n ms) c.in_ok-number.ensures.value) c.in_err-all.ensures.builds) c.from_residual-in_err-all.ensures
-
-pub repeat-returns-clause-builds : goal.repeat-returns-clause-builds
-repeat-returns-clause-builds t c =
-    let ms = map (lowered (wired_in c.args.design.now c.args.nodes.now)) c.args.members.now in
-    last
-    (next _ _ (all_left (repeated (count_alone c.args.number.now) ms >>= extended (shape_of c.args.context)) c.args.net.now)
-    (same_build _ (repeated (count_alone c.args.number.now) ms) (ap (λ (n : ℕ). repeated n ms) c.in_ok-number.ensures.value) c.in_ok-all.ensures.builds)) c.extended.ensures.builds
 
 pub lower-returns-in-Some-clause-builds : goal.lower-returns-in-Some-clause-builds
 lower-returns-in-Some-clause-builds t c =
@@ -343,8 +297,21 @@ joined-loop-member-preserved t c =
 pub joined-returns-clause-builds : goal.joined-returns-clause-builds
 joined-returns-clause-builds t c =
     done (λ w. w.items) _
-    (rw c.reverse.ensures.items (joined_whole (lowered (wired_in c.args.design.now c.args.nodes.now)) c.args.members.now c.loop-member.member-index (reverse c.loop-member.all.items) (omega arith) c.loop-member.invariant.left))
+    (rw c.reverse-2.ensures.items (joined_whole (lowered (wired_in c.args.design.now c.args.nodes.now)) c.args.members.now c.loop-member.member-index (reverse c.loop-member.all.items) (omega arith) c.loop-member.invariant.left))
 
-pub repeated-returns-clause-inside : goal.repeated-returns-clause-inside
-repeated-returns-clause-inside t c =
-    copied_there (λ w. w.items) c.copies.result c.args.number c.in_ok-word.word.items (length c.joined.new.net) (rw c.as_slice.ensures.value at c.copies.ensures.items) c.in_ok-word.ensures.inside
+pub repeat-returns-in_err-word-clause-builds : goal.repeat-returns-in_err-word-clause-builds
+repeat-returns-in_err-word-clause-builds t c =
+    let ms = map (lowered (wired_in c.args.design.now c.args.nodes.now)) c.args.members.now in
+    fault _ _ (repeat_first (count_alone c.args.number.now) ms (shape_of c.args.context) c.args.net.now) c.in_err-word.ensures.builds c.from_residual-in_err-word.ensures
+
+pub repeat-extended-requires : goal.repeat-extended-requires
+repeat-extended-requires t c =
+    subst (λ (w : List ℕ). AreThere c.joined.new.net w) (sym (rw c.as_slice.ensures.value at c.in_ok-all.ensures.items))
+    (copies_there c.in_ok-number.number c.in_ok-word.word.items (length c.joined.new.net) c.in_ok-word.ensures.inside)
+
+pub repeat-returns-clause-builds : goal.repeat-returns-clause-builds
+repeat-returns-clause-builds t c =
+    let ms = map (lowered (wired_in c.args.design.now c.args.nodes.now)) c.args.members.now in
+    let copied = (rw c.as_slice.ensures.value at c.in_ok-all.ensures.items) ∙ ap (λ (n : ℕ). copies n c.in_ok-word.word.items) c.in_ok-number.ensures.value in
+    last (next _ _ (repeat_first (count_alone c.args.number.now) ms (shape_of c.args.context) c.args.net.now) c.in_ok-word.ensures.builds)
+    (same_build _ _ (ap (extended (shape_of c.args.context)) copied) c.extended.ensures.builds)
