@@ -46,7 +46,7 @@ module _ (whole : List Numbered) (state : State) (found : List Tern) (valuation 
   seen = seen_names (at found) names
 
   -- the shape of a value, and its words in every context
-  record Worth (a : Lowered) (v : Valued) : Type 0 where
+  pub record Worth (a : Lowered) (v : Valued) : Type 0 where
     pub shape : a.shape ≡ v.shape
     pub word : (c : Shape) → Gives whole (a.word c) (λ made. map (at found) made ≡ v.word c)
 

@@ -315,7 +315,6 @@ fn unary(
 
 /// An operator between its operands, the left one first.
 #[cycle(gates)]
-#[tactic(auto, using(net_words::proofs::WordSteps::still_there))]
 fn binary(
     alloc: Global,
     net: &mut GateList,
@@ -343,7 +342,6 @@ fn binary(
 
 /// A choice, bit by bit.
 #[cycle(gates)]
-#[tactic(auto, using(net_words::proofs::WordSteps::still_there))]
 fn choice(
     alloc: Global,
     net: &mut GateList,

@@ -315,3 +315,31 @@ repeat-returns-clause-builds t c =
     let copied = (rw c.as_slice.ensures.value at c.in_ok-all.ensures.items) ∙ ap (λ (n : ℕ). copies n c.in_ok-word.word.items) c.in_ok-number.ensures.value in
     last (next _ _ (repeat_first (count_alone c.args.number.now) ms (shape_of c.args.context) c.args.net.now) c.in_ok-word.ensures.builds)
     (same_build _ _ (ap (extended (shape_of c.args.context)) copied) c.extended.ensures.builds)
+
+pub binary-lower-requires : goal.binary-lower-requires
+binary-lower-requires t c = (omega (arith, c.decreases), (c.requires.has, c.requires.nodes))
+
+pub binary-lower-requires-2 : goal.binary-lower-requires-2
+binary-lower-requires-2 t c = (omega (arith, c.decreases), (c.requires.has, still_there c.args.net.now c.lower.new.net c.args.nodes.now c.requires.nodes c.in_ok-x.ensures.longer))
+
+pub choice-lower_alone-requires : goal.choice-lower_alone-requires
+choice-lower_alone-requires t c = (omega (arith, c.decreases), (c.requires.has, c.requires.nodes))
+
+pub choice-lower-requires : goal.choice-lower-requires
+choice-lower-requires t c = (
+  omega (arith, c.decreases),
+  (c.requires.has,
+  still_there c.lower_alone.new.net c.any.new.net c.args.nodes.now (still_there c.args.net.now c.lower_alone.new.net c.args.nodes.now c.requires.nodes c.in_ok-test.ensures.longer) c.in_ok-selection.ensures.longer),
+)
+
+pub choice-lower-requires-2 : goal.choice-lower-requires-2
+choice-lower-requires-2 t c = (
+  omega (arith, c.decreases),
+  (c.requires.has,
+  still_there c.any.new.net c.lower.new.net c.args.nodes.now
+      (still_there c.lower_alone.new.net c.any.new.net c.args.nodes.now (still_there c.args.net.now c.lower_alone.new.net c.args.nodes.now c.requires.nodes c.in_ok-test.ensures.longer) c.in_ok-selection.ensures.longer)
+      c.in_ok-x.ensures.longer),
+)
+
+pub repeat-joined-requires : goal.repeat-joined-requires
+repeat-joined-requires t c = (omega (arith, c.decreases), (c.requires.has, c.requires.nodes))
