@@ -21,37 +21,37 @@ invariant-joined-loop-member l = record {
 -- ---- each goes down the expression, or to a function that is lower here
 
 abbrev pub decreases-formed : goal.decreases-formed
-decreases-formed l = 16 * (the_size l.e) + 0
+decreases-formed l = 16 * (the_size l.e.now) + 0
 
 abbrev pub decreases-lower : goal.decreases-lower
-decreases-lower l = 16 * (the_size l.e) + 1
+decreases-lower l = 16 * (the_size l.e.now) + 1
 
 abbrev pub decreases-lower_alone : goal.decreases-lower_alone
-decreases-lower_alone l = 16 * (the_size l.e) + 2
+decreases-lower_alone l = 16 * (the_size l.e.now) + 2
 
 abbrev pub decreases-unary : goal.decreases-unary
-decreases-unary l = 16 * (the_size l.inner) + 2
+decreases-unary l = 16 * (the_size l.inner.now) + 2
 
 abbrev pub decreases-binary : goal.decreases-binary
-decreases-binary l = 16 * (max (the_size l.left) (the_size l.right)) + 2
+decreases-binary l = 16 * (max (the_size l.left.now) (the_size l.right.now)) + 2
 
 abbrev pub decreases-picked_by : goal.decreases-picked_by
-decreases-picked_by l = 16 * (the_size l.at) + 2
+decreases-picked_by l = 16 * (the_size l.at.now) + 2
 
 abbrev pub decreases-index : goal.decreases-index
-decreases-index l = 16 * (the_size l.at) + 3
+decreases-index l = 16 * (the_size l.at.now) + 3
 
 abbrev pub decreases-part_from : goal.decreases-part_from
-decreases-part_from l = 16 * (the_size l.first) + 3
+decreases-part_from l = 16 * (the_size l.first.now) + 3
 
 abbrev pub decreases-joined : goal.decreases-joined
-decreases-joined l = 16 * (most (λ x. the_size x) l.members) + 3
+decreases-joined l = 16 * (most (λ x. the_size x) l.members.now) + 3
 
 abbrev pub decreases-choice : goal.decreases-choice
-decreases-choice l = 16 * (max (the_size l.test) (max (the_size l.left) (the_size l.right))) + 3
+decreases-choice l = 16 * (max (the_size l.test.now) (max (the_size l.left.now) (the_size l.right.now))) + 3
 
 abbrev pub decreases-concat : goal.decreases-concat
-decreases-concat l = 16 * (most (λ x. the_size x) l.members) + 4
+decreases-concat l = 16 * (most (λ x. the_size x) l.members.now) + 4
 
 abbrev pub decreases-repeat : goal.decreases-repeat
-decreases-repeat l = 16 * (most (λ x. the_size x) l.members) + 5
+decreases-repeat l = 16 * (most (λ x. the_size x) l.members.now) + 5
