@@ -1,12 +1,11 @@
 -- Serves src/constants.rt, src/extensions.rt and src/operators.rt: the bits of a number, and words in a context.
-use Rattle.std.proofs.Common.{◌≡◌, ◌==◌, ℕ, zero, suc, ◌+◌, ◌-◌, ◌/◌, ◌<◌, ◌≤◌, Bool, true, false, nat_lt, ne_eqb, lt-ltb, le-ltb, Result, Ok, Err, IfOk, All, List, [], ◌∷◌, ◌++◌, length, take, replicate, get_or, refl, sym, ap, subst, ◌∙◌, arith}
+use Rattle.std.proofs.Common.{◌≡◌, ◌==◌, ℕ, zero, suc, ◌+◌, ◌-◌, ◌/◌, ◌<◌, ◌≤◌, Bool, true, false, ne_eqb, lt-ltb, le-ltb, All, List, [], ◌∷◌, ◌++◌, length, take, replicate, get_or, refl, sym, ap, subst, ◌∙◌, arith}
 use Rattle.std.proofs.lemmas.List.Elements.{All-nil, All-append}
 use Rattle.rdc_tern.specs.declared.value.Tern.{Tern}
 use Rattle.rdc_tern.specs.Words.{inverted}
 use Rattle.vlog_const.specs.declared.shape.Shape.{Shape}
 use Rattle.net_view.specs.View.{Numbered}
 use Rattle.net_view.specs.declared.gate.Gate.TheVariants.{Const}
-use Rattle.design_form.specs.Bits.{bits}
 use Rattle.design_form.proofs.WordLemmas.{bits-more, bits-end}
 use Rattle.net_words.specs.Builds.{Build, ◌>>=◌, return, put}
 use Rattle.net_words.specs.Shifts.{top_of, sar}
@@ -16,7 +15,6 @@ use Rattle.net_exprs.specs.Extensions.{fill, extended, extended_if, copies}
 use Rattle.net_exprs.specs.Operators.{between, filled}
 use Rattle.vlog_tree.specs.declared.operator.Binary.{Binary}
 use Rattle.vlog_tree.specs.declared.operator.Binary.TheVariants as binary
-use Rattle.vlog_const.specs.declared.shape.Family.{Family}
 use Rattle.vlog_const.specs.declared.shape.Family.TheVariants.{Compared}
 use Rattle.vlog_const.specs.Widths.{family_of}
 

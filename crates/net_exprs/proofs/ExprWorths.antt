@@ -1,5 +1,5 @@
 -- Serves specs/Laws.antt: what expressions are worth.
-use Rattle.std.proofs.Common.{◌≡◌, ℕ, zero, suc, ◌+◌, Bool, true, false, if◌then◌else◌, List, [], ◌∷◌, ◌++◌, length, map, Ok, Err, refl, sym, ap, subst, ◌∙◌}
+use Rattle.std.proofs.Common.{◌≡◌, ℕ, Bool, true, false, if◌then◌else◌, List, [], ◌∷◌, ◌++◌, map, Ok, Err, refl, sym, ap, subst, ◌∙◌}
 use Rattle.std.proofs.lemmas.List.{map-append}
 use Rattle.vlog_tree.specs.declared.expr.Expr.{Expr, ind-Expr, map-Expr, roll-Expr}
 use Rattle.vlog_tree.specs.declared.expr.Expr.TheOpen.{Expr-F}
@@ -15,7 +15,7 @@ use Rattle.vlog_const.specs.declared.shape.Shape.{Shape}
 use Rattle.vlog_const.specs.declared.answer.ConstValue.{ConstValue}
 use Rattle.vlog_const.specs.Names.{no_values}
 use Rattle.vlog_const.specs.Worths.{Or_fault}
-use Rattle.vlog_const.specs.Widths.{operand_family, unary_context, left_context, right_context, common, within}
+use Rattle.vlog_const.specs.Widths.{unary_context, left_context, right_context, common, within}
 use Rattle.vlog_const.specs.Constants.{value_in}
 use Rattle.design_form.specs.Bits.{bits}
 use Rattle.design_form.specs.Bits as design
@@ -35,7 +35,7 @@ use Rattle.net_exprs.specs.Wired.{Wired, seen_of}
 use Rattle.net_exprs.specs.Constants.{constants, value_or}
 use Rattle.net_exprs.specs.Extensions.{extended, copies}
 use Rattle.net_exprs.specs.Laws.{AreWorthWords, seen_names}
-use Rattle.net_exprs.specs.Lowered.{Formed, Lowered, lowered, by_value, fixed, picked_by, select_word, joined, repeated, gates_word, binary_word, choice_word, unary_formed}
+use Rattle.net_exprs.specs.Lowered.{Formed, Lowered, lowered, by_value, picked_by, select_word, joined, repeated, gates_word, binary_word, choice_word, unary_formed}
 use Rattle.net_exprs.proofs.LoweredForms.{lowered-Number, lowered-Name, lowered-Index, lowered-Select, lowered-Brackets, lowered-Concat, lowered-Repeat, lowered-Unary, lowered-Binary, lowered-Conditional}
 use Rattle.net_exprs.proofs.ShapeLemmas.{shapes_kept}
 use Rattle.net_exprs.proofs.FormWorths.{bits_are, constant_are, constants_gives, extended_gives, copies_map, before_gives, between_gives}
@@ -117,7 +117,7 @@ module _ (whole : List Numbered) (state : State) (found : List Tern) (valuation 
 
   binary_by : (e : Expr) (op : Binary) (a b : Lowered) (x y : Valued) → Worth a x → Worth b y → (c : Shape) (t : Bool) → is_computed op ≡ t
       → Gives whole (if t then constants (constant_bits c.width (value_in no_values c e)) else gates_word op a b c)
-        (λ made. map (at found) made ≡ (if t then constant_bits c.width (value_in no_values c e) else value.gates_word op x y c))
+      (λ made. map (at found) made ≡ (if t then constant_bits c.width (value_in no_values c e) else value.gates_word op x y c))
   binary_by e op a b x y h k c true is = constants_gives whole state found valuation (constant_bits c.width (value_in no_values c e)) (constant_are c.width (value_in no_values c e))
   binary_by e op a b x y h k c false is = gates_gives op a b x y is h k c
 

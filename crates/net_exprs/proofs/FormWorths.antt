@@ -1,5 +1,5 @@
 -- Serves specs/Laws.antt: what constants, extensions and operators are worth.
-use Rattle.std.proofs.Common.{◌≡◌, ◌==◌, ◌%◌, ◌/◌, ℕ, zero, suc, ◌+◌, ◌-◌, ◌<◌, ◌≤◌, Bool, true, false, nat_lt, ltb-true, ltb-false, if◌then◌else◌, List, [], ◌∷◌, ◌++◌, length, map, take, replicate, get_or, Ok, Err, refl, sym, ap, subst, ◌∙◌, append-nil, arith}
+use Rattle.std.proofs.Common.{◌≡◌, ◌==◌, ◌%◌, ◌/◌, ℕ, zero, suc, ◌-◌, ◌<◌, ◌≤◌, Bool, true, false, nat_lt, ltb-false, if◌then◌else◌, List, [], ◌∷◌, ◌++◌, length, map, take, replicate, get_or, Ok, Err, refl, sym, ap, ◌∙◌, append-nil, arith}
 use Rattle.std.proofs.lemmas.List.{length-map, map-append, take-map}
 use Rattle.vlog_tree.specs.declared.operator.Unary.{Unary}
 use Rattle.vlog_tree.specs.declared.operator.Unary.TheVariants as unary
@@ -7,7 +7,7 @@ use Rattle.vlog_tree.specs.declared.operator.Binary.{Binary}
 use Rattle.vlog_tree.specs.declared.operator.Binary.TheVariants as binary
 use Rattle.rdc_tern.specs.declared.value.Tern.{Tern}
 use Rattle.rdc_tern.specs.declared.value.Tern.TheVariants.{Zero, One, Unsettled}
-use Rattle.rdc_tern.specs.Kleene.{not_of, and_of, or_of, xor_of}
+use Rattle.rdc_tern.specs.Kleene.{not_of}
 use Rattle.rdc_tern.specs.Shifts as shift
 use Rattle.rdc_tern.specs.Shifts.{sar_of}
 use Rattle.rdc_tern.specs.Words as word

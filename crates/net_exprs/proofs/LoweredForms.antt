@@ -8,14 +8,11 @@ use Rattle.vlog_tree.specs.declared.expr.Part.{Part}
 use Rattle.vlog_tree.specs.declared.number.Number as n
 use Rattle.vlog_tree.specs.declared.operator.Unary as u
 use Rattle.vlog_tree.specs.declared.operator.Binary as b
-use Rattle.vlog_const.specs.declared.shape.Shape.{Shape}
-use Rattle.vlog_const.specs.Names.{no_values}
-use Rattle.vlog_const.specs.Constants.{value_in}
 use Rattle.design_form.specs.Bits.{bits}
 use Rattle.design_form.specs.Values.{count_alone}
 use Rattle.design_form.proofs.ValueLemmas.{firsts}
 use Rattle.net_exprs.specs.Wired.{Wired}
-use Rattle.net_exprs.specs.Constants.{constants, value_or}
+use Rattle.net_exprs.specs.Constants.{constants}
 use Rattle.net_exprs.specs.Lowered.{Formed, Lowered, lowered, lowered_by_parts, by_value, fixed, named, index_formed, select_formed, brackets_formed, concat_formed, repeat_formed, unary_formed, binary_formed, choice_formed}
 
 wholes : {A : Type 0} (f : Expr → A) (xs : List Expr) → map (λ p. p.0) (map (λ x. let q : Expr × A = (x, f x) in q) xs) ≡ xs

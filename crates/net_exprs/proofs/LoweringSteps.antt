@@ -1,12 +1,10 @@
 -- Serves src/lowering.rt: an expression of some form, from what its parts are.
-use Rattle.std.proofs.Common.{◌≡◌, ℕ, zero, suc, ◌+◌, ◌<◌, ◌≤◌, Bool, true, false, if◌then◌else◌, List, [], ◌∷◌, ◌++◌, All, length, map, drop, get_or, reverse, Ok, Err, IsErr, refl, sym, ap, subst, ◌∙◌, add-one, drop-cons, arith, append-nil, append_assoc}
+use Rattle.std.proofs.Common.{◌≡◌, ℕ, ◌+◌, ◌<◌, ◌≤◌, Bool, true, false, if◌then◌else◌, List, [], ◌∷◌, ◌++◌, length, map, drop, get_or, reverse, Ok, Err, IsErr, refl, sym, ap, subst, ◌∙◌, add-one, drop-cons}
 use Rattle.std.proofs.lemmas.List.{drop_all, reverse-append, reverse-reverse}
-use Rattle.std.proofs.lemmas.List.Elements.{All-append, All-nil}
 use Rattle.rdc_outside.specs.declared.source.Place.{Place}
 use Rattle.vlog_tree.specs.declared.expr.Expr.{Expr}
 use Rattle.vlog_tree.specs.declared.expr.Expr.TheVariants.{Number, Name, Index, Select, Brackets, Concat, Repeat, Unary as Op, Binary as Between, Conditional}
 use Rattle.vlog_tree.specs.declared.expr.Part.{Part}
-use Rattle.vlog_tree.specs.declared.expr.Part.TheVariants.{Fixed, Up, Down}
 use Rattle.vlog_tree.specs.declared.number.Number as n
 use Rattle.vlog_tree.specs.declared.operator.Unary.{Unary}
 use Rattle.vlog_tree.specs.declared.operator.Binary.{Binary}
@@ -21,12 +19,12 @@ use Rattle.vlog_const.specs.Constants.{value_in}
 use Rattle.design_form.specs.Bits.{bits}
 use Rattle.design_form.specs.Values.{constant_bits, count_alone, is_computed}
 use Rattle.net_view.specs.View.{Numbered}
-use Rattle.net_words.specs.Builds.{Build, ◌>>=◌, return, AreThere}
+use Rattle.net_words.specs.Builds.{Build, ◌>>=◌, return}
 use Rattle.net_words.proofs.BuildLemmas.{IsLeft}
 use Rattle.net_exprs.specs.Wired.{Wired}
 use Rattle.net_exprs.specs.Alike.{AreAlike, Fits}
 use Rattle.net_exprs.specs.Constants.{constants, value_or}
-use Rattle.net_exprs.specs.Lowered.{Formed, Lowered, lowered, by_value, fixed, named, index_formed, select_formed, select_word, brackets_formed, concat_formed, repeat_formed, unary_formed, binary_formed, binary_word, gates_word, choice_formed, choice_word, joined, built_alone}
+use Rattle.net_exprs.specs.Lowered.{Formed, Lowered, lowered, by_value, fixed, named, index_formed, select_formed, concat_formed, repeat_formed, unary_formed, binary_word, gates_word, choice_word, joined, built_alone}
 use Rattle.net_exprs.proofs.LoweredForms.{is_by_value, lowered-Number, lowered-Name, lowered-Index, lowered-Select, lowered-Brackets, lowered-Concat, lowered-Repeat, lowered-Unary, lowered-Binary, lowered-Conditional}
 use Rattle.net_exprs.proofs.Rows.{under, member_first, all_members, no_members}
 

@@ -1,7 +1,7 @@
 -- Serves src/selects.rt and src/picks.rt: one bit more of a select, and nodes that are there.
-use Rattle.std.proofs.Common.{◌≡◌, ℕ, zero, suc, ◌+◌, ◌-◌, ◌<◌, ◌≤◌, Bool, true, false, nat_le, if◌then◌else◌, List, [], ◌∷◌, ◌++◌, All, length, map, drop, get_or, Option, Some, None, IfSome, slice_get, refl, sym, ap, subst, ◌∙◌, add-one, drop-cons, append-nil, arith, lt_of_lt_of_le, le_trans}
+use Rattle.std.proofs.Common.{◌≡◌, ℕ, zero, suc, ◌+◌, ◌-◌, ◌<◌, ◌≤◌, Bool, true, false, nat_le, if◌then◌else◌, List, [], ◌∷◌, ◌++◌, All, length, drop, get_or, Option, Some, None, IfSome, slice_get, refl, sym, ap, subst, ◌∙◌, add-one, drop-cons, append-nil, arith, lt_of_lt_of_le}
 use Rattle.std.proofs.lemmas.List.{drop_all}
-use Rattle.std.proofs.lemmas.List.Elements.{All-head, All-tail, All-push, All-append, All-nil}
+use Rattle.std.proofs.lemmas.List.Elements.{All-head, All-tail, All-push}
 use Rattle.vlog_tree.specs.declared.expr.Part.{Part}
 use Rattle.vlog_const.specs.declared.shape.Shape.{Shape}
 use Rattle.vlog_const.specs.declared.whole.Whole.{Whole}
@@ -12,7 +12,7 @@ use Rattle.net_view.specs.declared.gate.Gate.TheVariants.{And}
 use Rattle.rdc_tern.specs.declared.value.Tern.{Tern}
 use Rattle.design_form.specs.Bits.{can_be, start_word}
 use Rattle.design_form.specs.Selects.{start_of}
-use Rattle.net_words.specs.Builds.{Built, Build, onward, ◌>>=◌, return, put, AreThere}
+use Rattle.net_words.specs.Builds.{Built, Build, onward, ◌>>=◌, return, put}
 use Rattle.net_words.proofs.BuildLemmas.{IsLeft, all_left, begins_itself}
 use Rattle.net_exprs.specs.Selects.{bit_at, node_or_0, part_bit, part_from, equals, hit_if, hit, hits_from, reached, term, with_term, terms, picked_bit, picked_from}
 use Rattle.net_exprs.specs.Starts.{AreMaybe}

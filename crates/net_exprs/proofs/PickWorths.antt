@@ -1,10 +1,10 @@
 -- Serves specs/Laws.antt: what selects are worth.
-use Rattle.std.proofs.Common.{◌≡◌, ℕ, zero, suc, ◌+◌, ◌-◌, Bool, true, false, nat_le, if◌then◌else◌, List, [], ◌∷◌, ◌++◌, length, map, get_or, slice_get, Option, Some, None, refl, sym, ap, subst, ◌∙◌, rules, arith}
+use Rattle.std.proofs.Common.{◌≡◌, ℕ, zero, suc, ◌+◌, ◌-◌, Bool, true, false, nat_le, if◌then◌else◌, List, [], ◌∷◌, ◌++◌, map, get_or, slice_get, Option, Some, None, refl, sym, ap, ◌∙◌, rules}
 use Rattle.std.proofs.lemmas.List.{map-append}
 use Rattle.vlog_tree.specs.declared.expr.Part.{Part}
 use Rattle.vlog_tree.specs.declared.expr.Part.TheVariants.{Fixed, Up, Down}
 use Rattle.rdc_tern.specs.declared.value.Tern.{Tern}
-use Rattle.rdc_tern.specs.declared.value.Tern.TheVariants.{Zero, One, Unsettled}
+use Rattle.rdc_tern.specs.declared.value.Tern.TheVariants.{Zero}
 use Rattle.rdc_tern.specs.Kleene.{and_of, or_of}
 use Rattle.rdc_tern.specs.Words.{any_of, eq_of}
 use Rattle.vlog_const.specs.declared.shape.Shape.{Shape}
@@ -17,7 +17,7 @@ use Rattle.design_form.specs.Selects.{bit_less, start_of, difference, starts}
 use Rattle.net_view.specs.View.{Numbered}
 use Rattle.net_view.specs.Values.{State, at, IsValuation}
 use Rattle.net_view.specs.declared.gate.Gate.TheVariants.{Const, And}
-use Rattle.net_words.specs.Builds.{Build, Gives}
+use Rattle.net_words.specs.Builds.{Gives}
 use Rattle.net_words.proofs.WorthLemmas.{gives_return, gives_then, gives_put, gives_more}
 use Rattle.net_words.proofs.WordWorths.{any_gives}
 use Rattle.net_words.proofs.ComparisonWorths.{eq_gives}

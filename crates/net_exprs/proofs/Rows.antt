@@ -1,5 +1,5 @@
 -- Serves the loops: what stands in front of, or behind, what is still built.
-use Rattle.std.proofs.Common.{◌≡◌, ℕ, List, [], ◌∷◌, ◌++◌, append_assoc, append-nil, refl, sym, ◌∙◌, ap, Option, Some, None}
+use Rattle.std.proofs.Common.{◌≡◌, ℕ, List, [], ◌++◌, append_assoc, append-nil, refl, sym, ◌∙◌, ap, Option, Some, None}
 use Rattle.net_view.specs.View.{Numbered}
 use Rattle.net_words.specs.Builds.{Built, Build, onward, ◌>>=◌, return}
 use Rattle.net_words.proofs.BuildLemmas.{IsLeft, begins_itself}

@@ -1,5 +1,5 @@
 -- Serves src/lowering.rt and src/forms.rt: what a call builds, said of what is the same.
-use Rattle.std.proofs.Common.{◌≡◌, ℕ, List, Option, Some, None, Result, refl, sym, ap, subst, ◌∙◌}
+use Rattle.std.proofs.Common.{◌≡◌, ℕ, List, Option, Some, None, Result, refl, ap, subst, ◌∙◌}
 use Rattle.vlog_tree.specs.declared.expr.Expr.{Expr}
 use Rattle.vlog_tree.specs.declared.expr.Part.{Part}
 use Rattle.vlog_tree.specs.declared.expr.Part.TheVariants.{Fixed, Up, Down}

@@ -1,5 +1,5 @@
 -- Serves src/constants.rt and src/lowering.rt: the width of a constant in a context, and which contexts have none.
-use Rattle.std.proofs.Common.{◌≡◌, ℕ, ◌<◌, Option, Some, None, Ok, Err, IsErr, refl, sym, ap, ◌∙◌, arith}
+use Rattle.std.proofs.Common.{◌≡◌, ℕ, ◌<◌, Ok, Err, IsErr, refl, sym, ap, arith}
 use Rattle.vlog_tree.specs.declared.expr.Expr.{Expr}
 use Rattle.vlog_const.specs.declared.shape.Shape.{Shape}
 use Rattle.vlog_const.specs.declared.answer.ConstValue.{ConstValue}

@@ -5,7 +5,7 @@
 --   lowered names e                           an expression, where each name stands for what `names` says
 --   built_of names e, built_in names c e, built_within names w e   its word alone, in a context, and as on the right of an
 --                                             assignment to w bits
-use Rattle.std.specs.Prelude.{ℕ, ◌+◌, Bool, if◌then◌else◌, List, [], ◌∷◌, ◌++◌, length, map}
+use Rattle.std.specs.Prelude.{ℕ, ◌+◌, if◌then◌else◌, List, [], ◌∷◌, ◌++◌, length, map}
 use Rattle.vlog_tree.specs.declared.expr.Expr.{Expr, para-Expr}
 use Rattle.vlog_tree.specs.declared.expr.Expr.TheVariants as expr
 use Rattle.vlog_tree.specs.declared.expr.Expr.TheOpen.{Expr-F}

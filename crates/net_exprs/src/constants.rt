@@ -13,7 +13,9 @@ use net_gates::{GateFault, GateList, Node};
 use net_view::Gate;
 use net_words::put;
 use std::alloc::Global;
-use vlog_const::{ConstFault, ConstValue, Env, Shape, Whole, is_division, is_power, value, value_in};
+use vlog_const::{
+    ConstFault, ConstValue, Env, Shape, Whole, is_division, is_power, value, value_in,
+};
 use vlog_tree::{Binary, Expr};
 
 /// Whether the lowest bit of a number, or its inverse, is 1.

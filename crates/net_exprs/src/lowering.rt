@@ -94,9 +94,7 @@ fn formed(
             let (n, members) = (n.get(), members.as_slice());
             repeat(alloc, net, design, nodes, n, members, context)
         }
-        Expr::Unary(_, op, inner) => {
-            unary(alloc, net, design, nodes, *op, inner.get(), context)
-        }
+        Expr::Unary(_, op, inner) => { unary(alloc, net, design, nodes, *op, inner.get(), context) }
         Expr::Binary(_, op, left, right) => {
             if is_computed(*op) {
                 return computed(alloc, net, e, context);

@@ -14,8 +14,8 @@ use design_form::Extent;
 use net_gates::{GateFault, GateList, Node};
 use net_view::Gate;
 use net_words::{
-    Bitwise, add, all, any, bit, each, eq, inverted, lt, lt_signed, mul, neg, parity, put, sar, shl, shr,
-    sub,
+    Bitwise, add, all, any, bit, each, eq, inverted, lt, lt_signed, mul, neg, parity, put, sar,
+    shl, shr, sub,
 };
 use std::alloc::Global;
 use vlog_tree::{Binary, Unary};

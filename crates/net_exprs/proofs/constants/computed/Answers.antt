@@ -1,4 +1,4 @@
-use Rattle.std.proofs.Common.{◌≡◌, ℕ, List, Option, subst}
+use Rattle.std.proofs.Common.{ℕ, List, Option, subst}
 use Rattle.vlog_const.specs.declared.answer.ConstValue.{ConstValue}
 use Rattle.vlog_const.specs.Names.{no_values}
 use Rattle.vlog_const.specs.Constants.{value_in}

@@ -1,8 +1,6 @@
-use Rattle.std.proofs.Common.{◌≡◌, ◌-◌, ◌<◌, length, arith, le_trans, ◌∷◌, [], List, ℕ, Bool, subst, ap, ◌∙◌, sym}
+use Rattle.std.proofs.Common.{◌<◌, length, arith, le_trans, ◌∷◌, [], ℕ, subst}
 use Rattle.std.proofs.lemmas.List.{length-append}
 use Rattle.std.proofs.lemmas.List.Elements.{All-nil}
-use Rattle.net_view.specs.declared.gate.Gate.TheVariants.{Const}
-use Rattle.net_words.specs.Builds.{Builds, put}
 use Rattle.net_words.proofs.BuildLemmas.{no_bits, next, fault, done, IsLeft, behind}
 use Rattle.net_words.proofs.WordSteps.{one_more}
 use Rattle.net_exprs.specs.Constants.{constants, start_bits}

@@ -1,9 +1,7 @@
-use Rattle.std.proofs.Common.{◌≡◌, ℕ, List, length, take, replicate, arith, ap, subst, sym}
+use Rattle.std.proofs.Common.{◌≡◌, length, arith}
 use Rattle.std.specs.Vec.{vec_len}
 use Rattle.design_form.specs.Extents.{shape_of}
-use Rattle.net_words.specs.Builds.{return}
-use Rattle.net_words.proofs.BuildLemmas.{IsLeft, done, next, fault}
-use Rattle.net_exprs.specs.Extensions.{extended}
+use Rattle.net_words.proofs.BuildLemmas.{done, next, fault}
 use Rattle.net_exprs.proofs.BitSteps.{extended_cut, extended_more}
 use Rattle.net_exprs.proofs.extensions.extended.Goals as goal
 

@@ -1,4 +1,3 @@
-use Rattle.std.proofs.Common.{ap}
 use Rattle.design_form.specs.Extents.{shape_of}
 use Rattle.design_form.specs.Values.{number_alone}
 use Rattle.net_words.specs.Builds.{◌>>=◌}

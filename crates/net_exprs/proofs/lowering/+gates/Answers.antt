@@ -4,20 +4,20 @@ use Rattle.vlog_const.specs.declared.shape.Shape.{Shape}
 use Rattle.vlog_const.specs.declared.answer.ConstValue.{ConstValue}
 use Rattle.vlog_const.specs.Names.{no_values}
 use Rattle.vlog_const.specs.Constants.{value_in}
-use Rattle.vlog_const.specs.Widths.{left_context, right_context, unary_context}
+use Rattle.vlog_const.specs.Widths.{unary_context}
 use Rattle.vlog_tree.specs.declared.expr.Part.TheVariants.{Down, Fixed}
 use Rattle.design_form.specs.Extents.{shape_of}
 use Rattle.design_form.specs.Values.{count_alone}
-use Rattle.net_words.specs.Builds.{Builds, Build, AreThere, ◌>>=◌}
+use Rattle.net_words.specs.Builds.{AreThere, ◌>>=◌}
 use Rattle.net_words.proofs.BuildLemmas.{IsLeft, all_left, next, fault, last, done}
 use Rattle.net_words.proofs.WordSteps.{still_there}
 use Rattle.net_exprs.specs.Constants.{IsValue}
 use Rattle.net_exprs.specs.Extensions.{extended, copies}
-use Rattle.net_exprs.specs.Operators.{before, between}
+use Rattle.net_exprs.specs.Operators.{before}
 use Rattle.net_exprs.specs.Selects.{picked_of}
 use Rattle.net_exprs.specs.Names.{wired_in}
 use Rattle.net_exprs.specs.Views.{view_of}
-use Rattle.net_exprs.specs.Lowered.{lowered, gates_word, choice_word, joined, repeated, picked_by, select_word}
+use Rattle.net_exprs.specs.Lowered.{lowered, gates_word, choice_word, joined, picked_by}
 use Rattle.net_exprs.proofs.LoweringSteps.{of_value, of_form, sides_alike, unary_fits, joined_first, joined_here, joined_whole, turned, number_form, name_form, index_form, select_form, brackets_form, concat_form, repeat_form, unary_form, computed_form, binary_form, choice_form}
 use Rattle.net_exprs.proofs.ValueSteps.{value_tells}
 use Rattle.net_exprs.proofs.Rows.{under}
@@ -328,17 +328,21 @@ choice-lower_alone-requires t c = (omega (arith, c.decreases), (c.requires.has, 
 pub choice-lower-requires : goal.choice-lower-requires
 choice-lower-requires t c = (
   omega (arith, c.decreases),
-  (c.requires.has,
-  still_there c.lower_alone.new.net c.any.new.net c.args.nodes.now (still_there c.args.net.now c.lower_alone.new.net c.args.nodes.now c.requires.nodes c.in_ok-test.ensures.longer) c.in_ok-selection.ensures.longer),
+  (
+    c.requires.has,
+    still_there c.lower_alone.new.net c.any.new.net c.args.nodes.now (still_there c.args.net.now c.lower_alone.new.net c.args.nodes.now c.requires.nodes c.in_ok-test.ensures.longer) c.in_ok-selection.ensures.longer,
+  ),
 )
 
 pub choice-lower-requires-2 : goal.choice-lower-requires-2
 choice-lower-requires-2 t c = (
   omega (arith, c.decreases),
-  (c.requires.has,
-  still_there c.any.new.net c.lower.new.net c.args.nodes.now
-      (still_there c.lower_alone.new.net c.any.new.net c.args.nodes.now (still_there c.args.net.now c.lower_alone.new.net c.args.nodes.now c.requires.nodes c.in_ok-test.ensures.longer) c.in_ok-selection.ensures.longer)
-      c.in_ok-x.ensures.longer),
+  (
+    c.requires.has,
+    still_there c.any.new.net c.lower.new.net c.args.nodes.now
+        (still_there c.lower_alone.new.net c.any.new.net c.args.nodes.now (still_there c.args.net.now c.lower_alone.new.net c.args.nodes.now c.requires.nodes c.in_ok-test.ensures.longer) c.in_ok-selection.ensures.longer)
+        c.in_ok-x.ensures.longer,
+  ),
 )
 
 pub repeat-joined-requires : goal.repeat-joined-requires

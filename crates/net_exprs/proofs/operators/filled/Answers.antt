@@ -1,4 +1,4 @@
-use Rattle.std.proofs.Common.{List, ℕ, subst, sym, length, arith}
+use Rattle.std.proofs.Common.{List, ℕ, subst, sym, arith}
 use Rattle.std.specs.Vec.{vec_len}
 use Rattle.net_words.specs.Builds.{Build, Builds}
 use Rattle.net_words.proofs.BuildLemmas.{done}

@@ -1,5 +1,4 @@
 use Rattle.net_words.proofs.BuildLemmas.{all_left, next, fault, last}
-use Rattle.net_words.proofs.WordSteps.{still_there}
 use Rattle.net_exprs.specs.Operators.{logical}
 use Rattle.net_exprs.proofs.operators.logical.Goals as goal
 

@@ -1,4 +1,4 @@
-use Rattle.std.proofs.Common.{List, ℕ, subst, sym, length}
+use Rattle.std.proofs.Common.{subst, sym}
 use Rattle.vlog_tree.specs.declared.operator.Unary.{Unary}
 use Rattle.design_form.specs.Extents.{shape_of}
 use Rattle.net_words.specs.Builds.{return}

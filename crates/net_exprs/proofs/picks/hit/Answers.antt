@@ -1,10 +1,7 @@
-use Rattle.std.proofs.Common.{◌≡◌, ℕ, List, length, None, ◌∙◌, sym, ap, subst, arith}
-use Rattle.rdc_tern.specs.declared.value.Tern.{Tern}
+use Rattle.std.proofs.Common.{ℕ, length, None, ◌∙◌, sym, ap}
 use Rattle.design_form.specs.Extents.{shape_of}
-use Rattle.net_words.specs.Builds.{Builds}
 use Rattle.net_words.proofs.BuildLemmas.{next, fault, done}
 use Rattle.net_exprs.specs.Constants.{start_bits}
-use Rattle.net_exprs.specs.Selects.{equals}
 use Rattle.net_exprs.proofs.PickSteps.{hit_not, hit_so}
 use Rattle.net_exprs.proofs.picks.hit.Goals as goal
 

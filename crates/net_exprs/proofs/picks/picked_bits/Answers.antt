@@ -1,4 +1,4 @@
-use Rattle.std.proofs.Common.{◌<◌, ◌-◌, [], ℕ, length, subst, arith, le_trans}
+use Rattle.std.proofs.Common.{◌<◌, [], ℕ, length, subst, arith, le_trans}
 use Rattle.std.proofs.lemmas.List.Elements.{All-nil}
 use Rattle.net_words.proofs.BuildLemmas.{IsLeft, next, fault, done}
 use Rattle.net_words.proofs.WordSteps.{still_there, one_more}

@@ -1,10 +1,9 @@
-use Rattle.std.proofs.Common.{◌<◌, ◌≡◌, [], ℕ, length, drop, IfSome, Option, subst, sym, arith, le_trans}
+use Rattle.std.proofs.Common.{◌<◌, ℕ, length, IfSome, Option, subst, sym, arith, le_trans}
 use Rattle.std.proofs.lemmas.List.Elements.{All-nil}
-use Rattle.net_words.specs.Builds.{Build, Builds}
-use Rattle.net_words.proofs.BuildLemmas.{IsLeft, next, fault, done}
+use Rattle.net_words.proofs.BuildLemmas.{next, fault, done}
 use Rattle.net_words.proofs.WordSteps.{still_there}
-use Rattle.net_exprs.specs.Selects.{terms, reached}
-use Rattle.net_exprs.proofs.Rows.{ahead, no_items}
+use Rattle.net_exprs.specs.Selects.{terms}
+use Rattle.net_exprs.proofs.Rows.{no_items}
 use Rattle.net_exprs.proofs.PickSteps.{terms_here, terms_whole, hit_there, reached_there}
 use Rattle.net_exprs.proofs.picks.terms.Goals as goal
 

@@ -1,4 +1,4 @@
-use Rattle.std.proofs.Common.{◌≡◌, false, sym, ◌∙◌}
+use Rattle.std.proofs.Common.{false}
 use Rattle.net_exprs.proofs.BitSteps.{sign_told}
 use Rattle.net_exprs.proofs.sizes.both_signed.Goals as goal
 
