@@ -1,0 +1,12 @@
+pub mod ValueSteps
+pub mod LoweredForms
+pub mod Rows
+pub mod BitSteps
+pub mod ShapeLemmas
+pub mod PickSteps
+pub mod NameSteps
+pub mod LoweringSteps
+pub mod Transport
+pub mod FormWorths
+pub mod PickWorths
+pub mod ExprWorths

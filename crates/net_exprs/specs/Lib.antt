@@ -1,0 +1,11 @@
+pub mod Wired
+pub mod Constants
+pub mod Extensions
+pub mod Operators
+pub mod Selects
+pub mod Lowered
+pub mod Laws
+pub mod Names
+pub mod Alike
+pub mod Views
+pub mod Starts
