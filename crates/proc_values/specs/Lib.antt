@@ -4,3 +4,6 @@ pub mod Labels
 pub mod Cases
 pub mod Bodies
 pub mod Laws
+pub mod Starts
+pub mod Covers
+pub mod Marks

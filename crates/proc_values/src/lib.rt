@@ -7,6 +7,16 @@
 //! `proc_cases` for which cases are full. Gates of processes are drawn after it.
 #![tactic(auto)]
 
+mod hits;
+mod indices;
 mod stroke;
+mod changes;
+mod contexts;
+mod labels;
+mod sides;
+mod sizes;
+mod strokes;
+mod targets;
+mod writes;
 
 pub use stroke::Stroke;

@@ -1,0 +1,10 @@
+mod HitLemmas
+mod StrokeLemmas
+mod ShapeLemmas
+mod TargetForms
+mod MemberLemmas
+mod SizeLemmas
+mod ContextLemmas
+mod LabelForms
+mod LabelLemmas
+mod ChangeLemmas
