@@ -8,3 +8,5 @@ mod ContextLemmas
 mod LabelForms
 mod LabelLemmas
 mod ChangeLemmas
+mod BodyForms
+mod RunLemmas

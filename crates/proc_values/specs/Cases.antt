@@ -49,3 +49,7 @@ body_at (Some i) arms r = body_in (slice_get arms i) r
 
 abbrev pub case_run : List ℕ → (List Expr → Tern) → Option ℕ → List (Arm Step) → Step
 case_run bits hit at arms = chain bits hit at 0 arms (body_at at arms)
+
+-- an item in which a part is what another one gives
+abbrev pub with_body : {S T : Type 0} → (S → T) → Arm S → Arm T
+with_body f a = record { place = a.place; labels = a.labels; body = f a.body }

@@ -10,6 +10,8 @@
 mod hits;
 mod indices;
 mod stroke;
+mod body;
+mod cases;
 mod changes;
 mod contexts;
 mod labels;

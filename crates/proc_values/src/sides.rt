@@ -10,11 +10,13 @@ use design_form::EvalFault;
 use rdc_tern::Tern;
 use std::alloc::Global;
 
-/// The values of the bits, as reads see them and as they become.
+/// The values of the bits of the process.
 #[derive(Drop)]
 pub(crate) struct Side {
-    pub(crate) now: Vec<Tern>,
-    pub(crate) next: Vec<Tern>,
+    /// As reads see them.
+    pub(crate) seen: Vec<Tern>,
+    /// As they become.
+    pub(crate) becomes: Vec<Tern>,
 }
 
 /// The values that the bits have.
@@ -24,23 +26,23 @@ pub(crate) fn side_of(
     now: &[Tern],
     next: &[Tern],
 ) -> Result<Side, EvalFault>
-    ensures now { IfOk result (λ side. side.now.items ≡ values_of now.now bits.now) }
-    ensures next { IfOk result (λ side. side.next.items ≡ values_of next.now bits.now) }
+    ensures now { IfOk result (λ side. side.seen.items ≡ values_of now.now bits.now) }
+    ensures next { IfOk result (λ side. side.becomes.items ≡ values_of next.now bits.now) }
 {
-    let now = gathered(alloc, bits, now)?;
-    let next = gathered(alloc, bits, next)?;
-    Ok(Side { now, next })
+    let seen = gathered(alloc, bits, now)?;
+    let becomes = gathered(alloc, bits, next)?;
+    Ok(Side { seen, becomes })
 }
 
 /// The bits get these values.
 pub(crate) fn put_side(bits: &[u32], side: &Side, now: &mut [Tern], next: &mut [Tern])
-    requires now { length side.now.now.items ≡ length bits.now }
-    requires next { length side.now.next.items ≡ length bits.now }
-    ensures now { now.new ≡ scattered bits.now side.now.now.items now.old }
-    ensures next { next.new ≡ scattered bits.now side.now.next.items next.old }
+    requires now { length side.now.seen.items ≡ length bits.now }
+    requires next { length side.now.becomes.items ≡ length bits.now }
+    ensures now { now.new ≡ scattered bits.now side.now.seen.items now.old }
+    ensures next { next.new ≡ scattered bits.now side.now.becomes.items next.old }
 {
-    put_back(bits, side.now.as_slice(), now);
-    put_back(bits, side.next.as_slice(), next);
+    put_back(bits, side.seen.as_slice(), now);
+    put_back(bits, side.becomes.as_slice(), next);
 }
 
 /// Bit by bit the first side where the selection is 1, the second where it is 0.
@@ -50,12 +52,12 @@ pub(crate) fn mixed_sides(
     first: &Side,
     second: &Side,
 ) -> Result<Side, EvalFault>
-    requires now { length first.now.now.items ≡ length second.now.now.items }
-    requires next { length first.now.next.items ≡ length second.now.next.items }
-    ensures now { IfOk result (λ side. side.now.items ≡ select_of select first.now.now.items second.now.now.items) }
-    ensures next { IfOk result (λ side. side.next.items ≡ select_of select first.now.next.items second.now.next.items) }
+    requires now { length first.now.seen.items ≡ length second.now.seen.items }
+    requires next { length first.now.becomes.items ≡ length second.now.becomes.items }
+    ensures now { IfOk result (λ side. side.seen.items ≡ select_of select first.now.seen.items second.now.seen.items) }
+    ensures next { IfOk result (λ side. side.becomes.items ≡ select_of select first.now.becomes.items second.now.becomes.items) }
 {
-    let now = mixed(alloc, select, first.now.as_slice(), second.now.as_slice())?;
-    let next = mixed(alloc, select, first.next.as_slice(), second.next.as_slice())?;
-    Ok(Side { now, next })
+    let seen = mixed(alloc, select, first.seen.as_slice(), second.seen.as_slice())?;
+    let becomes = mixed(alloc, select, first.becomes.as_slice(), second.becomes.as_slice())?;
+    Ok(Side { seen, becomes })
 }
