@@ -10,3 +10,4 @@ mod LabelLemmas
 mod ChangeLemmas
 mod BodyForms
 mod RunLemmas
+mod CaseLemmas

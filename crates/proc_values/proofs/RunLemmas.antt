@@ -7,6 +7,7 @@ use Rattle.vlog_tree.specs.declared.stmt.Stmt.{Stmt}
 use Rattle.rdc_tern.specs.declared.value.Tern.{Tern}
 use Rattle.rdc_tern.specs.Shifts.{select_of}
 use Rattle.design_form.specs.State.{value_at}
+use Rattle.proc_values.specs.declared.sides.Side.{Side}
 use Rattle.proc_values.specs.Runs.{Run, chosen, values_of}
 use Rattle.proc_values.specs.Cases.{Step, chain, default_from, is_at, with_body}
 use Rattle.proc_values.specs.Bodies.{in_order}
@@ -86,3 +87,11 @@ default_next {S} arms i arm whole lt is some left =
 pub default_none : {S : Type 0} (arms : List (Arm S)) (i : ℕ) (whole : Option ℕ) → length arms ≤ i → default_from i (drop i arms) ≡ whole → None ≡ whole
 unfolding default_from
 default_none {S} arms i whole past left = ap (default_from i) (sym (drop_all i arms past)) ∙ left
+
+-- ---- sides that are mixed
+
+pub ok_sides : {E : Type 0} (bits : List ℕ) (r one other : Run) (c hit : Tern) (a b x y : List Tern) (q : Result Side E) → IsSide bits r one a b → IsSide bits r other x y → c ≡ hit
+    → IfOk q (λ side. side.seen.items ≡ select_of c a x) → IfOk q (λ side. side.becomes.items ≡ select_of c b y) → IfOk q (λ side. IsSide bits r (chosen bits hit one other) side.seen.items side.becomes.items)
+ok_sides bits r one other c hit a b x y (Ok side) first second is now next =
+    subst (λ (h : Tern). IsSide bits r (chosen bits h one other) side.seen.items side.becomes.items) is (chosen_side bits r one other c a b x y _ _ first second now next)
+ok_sides bits r one other c hit a b x y (Err e) first second is now next = tt

@@ -89,3 +89,10 @@ unfolding CoversAll
 covers_at d c [] i m h lt is = absurd (omega arith)
 covers_at d c (e ∷ es) zero m h lt is = subst (λ (x : Expr). Covers c (shape_of d x)) (sym is) h.0
 covers_at d c (e ∷ es) (suc i) m h lt is = covers_at d c es i m h.1 (omega arith) is
+
+pub covers_items : {S : Type 0} (d : Parts) (c : Shape) (arms : List (Arm S)) (i : ℕ) (arm : Arm S) (labels : List Expr) → CoversAll d c (labels_of arms) → i < length arms → arm ≡ get_or arms i arm → labels ≡ arm.labels → CoversAll d c labels
+covers_items {S} d c arms i arm labels h lt is same =
+    subst (CoversAll d c) (sym same) (subst (λ (a : Arm S). CoversAll d c a.labels) (sym is) (covers_item d c arms i arm lt h))
+
+pub covers_all : (d : Parts) (c : Shape) (selector : Expr) (es : List Expr) → c ≡ case_shape d selector es → CoversAll d c es
+covers_all d c selector es is = subst (λ (s : Shape). CoversAll d s es) (sym is) (covers_list d (shape_of d selector) es)

@@ -14,7 +14,7 @@ ghost use Rattle.proc_values.specs.Labels.{any_hit};
 ghost use Rattle.proc_values.specs.Bodies.{branch, cases, in_order, run, side, worth};
 ghost use Rattle.proc_values.specs.Marks.{IsReady, IsSide, Runs};
 
-use crate::cases::{Choice, choice_of, is_at, standing};
+use crate::cases::{Choice, choice_of, is_at, labels_at, standing};
 use crate::changes::{gathered, marked};
 use crate::labels::any_hit;
 use crate::sides::{Side, mixed_sides, put_side, side_of};
@@ -292,9 +292,9 @@ fn tried_items(
     let mut left = arms.len();
     while 0 < left {
         left -= 1;
+        let labels = labels_at(design, choice.context, arms, left);
+        let body = arms[left].body.get();
         if !is_at(at, left) {
-            let arm = &arms[left];
-            let (body, labels) = (arm.body.get(), arm.labels.as_slice());
             side = match tried_item(alloc, design, bits, marks, choice, body, labels, &side, now, next) {
                 Ok(side) => side,
                 Err(fault) => return Err(fault),

@@ -5,6 +5,10 @@ ghost use Rattle.design_form.specs.State.{seen_in};
 ghost use Rattle.design_form.specs.Values.{word_in};
 ghost use Rattle.design_sizes.specs.Sizes.{case_shape};
 ghost use Rattle.proc_cases.specs.Full.{labels_of};
+ghost use Rattle.std.specs.Prelude.{◌<◌, get_or};
+ghost use Rattle.vlog_tree.specs.declared.stmt.Arm.{Arm};
+ghost use Rattle.vlog_tree.specs.declared.stmt.Stmt.{Stmt};
+ghost use Rattle.proc_values.specs.Covers.{CoversAll};
 ghost use Rattle.proc_values.specs.Cases.{default_from, is_at, standing};
 
 use crate::contexts::word_in;
@@ -76,9 +80,25 @@ pub(crate) fn choice_of(
 ) -> Result<Choice, EvalFault>
     ensures how { IfOk result (λ choice. choice.how ≡ how) }
     ensures shape { IfOk result (λ choice. shape_of choice.context ≡ case_shape design.now selector.now (labels_of arms.now)) }
+    ensures covers { IfOk result (λ choice. CoversAll design.now (shape_of choice.context) (labels_of arms.now)) }
     ensures word { IfOk result (λ choice. choice.word.items ≡ word_in (seen_in design.now now.now) (shape_of choice.context) selector.now) }
 {
     let context = case_size(alloc, design, selector, arms)?;
     let word = word_in(alloc, design, selector, now, context)?;
     Ok(Choice { how, context, word })
+}
+
+/// The labels of an item.
+pub(crate) fn labels_at<'a>(
+    design: &Design,
+    context: Extent,
+    arms: &'a [Arm<Boxed<Stmt>>],
+    i: usize,
+) -> &'a [Expr]
+    requires inside { i < length arms.now }
+    requires covers { CoversAll design.now (shape_of context) (labels_of arms.now) }
+    ensures covers { CoversAll design.now (shape_of context) result.now }
+    ensures labels { (arm : Arm Stmt) → arm ≡ get_or arms.now i arm → result.now ≡ arm.labels }
+{
+    arms[i].labels.as_slice()
 }

@@ -4,7 +4,7 @@ use Rattle.design_form.specs.Extents.{shape_of}
 use Rattle.proc_values.specs.Cases.{body_at, chain, with_body}
 use Rattle.proc_values.specs.Labels.{any_hit}
 use Rattle.proc_values.specs.Bodies.{in_order, run}
-use Rattle.proc_values.specs.Marks.{IsSide, Moves}
+use Rattle.proc_values.specs.Marks.{IsReady, IsSide, Moves}
 use Rattle.proc_values.proofs.body.+running.Given as goal
 
 abbrev pub invariant-run_all-loop-i : goal.invariant-run_all-loop-i
@@ -23,6 +23,9 @@ invariant-tried_items-loop-left l = record {
   now : l.now ≡ l.fn.now;
   next : l.next ≡ l.fn.next;
   inside : l.left ≤ length l.arms;
+  seen_long : length l.side.seen.items ≡ length l.bits;
+  becomes_long : length l.side.becomes.items ≡ length l.bits;
+  ready : IsReady l.bits l.marks l.now l.next;
 }
 
 abbrev pub decreases-tried_items-loop-left : goal.decreases-tried_items-loop-left
