@@ -62,7 +62,7 @@ case_is d bits st place how selector arms arms' r how' c w full at is arms-is ho
     let word-is : w ≡ word_in (seen_in d r.now) (case_shape d selector (labels_of (map (with_body (run d bits)) arms))) selector = word ∙ ap (λ (z : Shape). word_in (seen_in d r.now) z selector) shape-is in
     let all : full ≡ is_full d how selector (labels_of (map (with_body (run d bits)) arms)) = full-is ∙ ap (λ (l : List (Arm Stmt)). is_full d how selector (labels_of l)) arms-is ∙ ap (is_full d how selector) (sym labels) in
     let stands : at ≡ standing (is_full d how selector (labels_of (map (with_body (run d bits)) arms))) (map (with_body (run d bits)) arms) =
-        at-is ∙ ap (standing full) arms-is ∙ ap (λ (b : Bool). standing b arms) all ∙ sym (standing_kept (run d bits) _ arms) in
+    at-is ∙ ap (standing full) arms-is ∙ ap (λ (b : Bool). standing b arms) all ∙ sym (standing_kept (run d bits) _ arms) in
     (λ k. case_run bits (any_hit d r.now (how-is k) (shape-is k) (word-is k)) (stands k) (map (with_body (run d bits)) (arms-is k)) r)
     ∙ sym (ap (λ (f : Step). f r) (ap (run d bits) is ∙ run-Case d bits place how selector arms))
 

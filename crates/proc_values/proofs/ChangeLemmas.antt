@@ -91,6 +91,7 @@ set_back b bits r s long same n out = by (n == b) refl
       | inl inside ↦ ap (value_at r) e ∙ sym (get_or-set_same s b (value_at r b) Unsettled inside) ∙ ap (value_at (set s b (value_at r b))) (sym e)
       | inr past ↦ get_or_past r n Unsettled (omega (arith, long, past, e)) ∙ sym (get_or_past (set s b (value_at r b)) n Unsettled (omega (arith, length-set s b (value_at r b), past, e)))
     ]
+
     by : (t : Bool) → (n == b) ≡ t → value_at r n ≡ value_at (set s b (value_at r b)) n
     by true e = at_b (eqb-true n b e)
     by false e = same n (among_cons b bits n ∙ (λ k. e k || out k)) ∙ sym (get_or-set_other s b n (value_at r b) Unsettled (λ h. true_not_false (sym (eq-eqb n b h) ∙ e)))

@@ -63,9 +63,9 @@ same_more so_far free x y i d e whole in_x in_y h =
     let rest = all_of (same_at (drop (i + 1) free) (drop (i + 1) x) (drop (i + 1) y)) in
     let bit = same_bit (get_or free i false) (get_or x i d) (get_or y i e) in
     let here : all_of (same_at (drop i free) (drop i x) (drop i y)) ≡ and_of bit rest =
-        (λ k. all_of (same_at (drop i free) (drop_more x i d in_x k) (drop_more y i e in_y k)))
-        ∙ same_first (drop i free) (get_or x i d) (get_or y i e) (drop (i + 1) x) (drop (i + 1) y)
-        ∙ (λ k. and_of (same_bit (at_first free i k) (get_or x i d) (get_or y i e)) (all_of (same_at (drop-drop 1 i free k) (drop (i + 1) x) (drop (i + 1) y)))) in
+    (λ k. all_of (same_at (drop i free) (drop_more x i d in_x k) (drop_more y i e in_y k)))
+    ∙ same_first (drop i free) (get_or x i d) (get_or y i e) (drop (i + 1) x) (drop (i + 1) y)
+    ∙ (λ k. and_of (same_bit (at_first free i k) (get_or x i d) (get_or y i e)) (all_of (same_at (drop-drop 1 i free k) (drop (i + 1) x) (drop (i + 1) y)))) in
     and_assoc so_far bit rest ∙ ap (and_of so_far) (sym here) ∙ h
 
 no_same : (free : List Bool) (x y : List Tern) → min (length x) (length y) ≤ 0 → all_of (same_at free x y) ≡ One

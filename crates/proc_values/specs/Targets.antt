@@ -77,7 +77,7 @@ unfoldable pub onto_select : Parts → List Tern → Part → List ℕ → Optio
 onto_select d now how name (Some i) e n w = at_start (fixed_start how (range_of d.signals name) n i) (range_of d.signals name) (all_bits d.signals name) n w
 onto_select d now how name None e n w =
     from_starts (hits_from how (range_of d.signals name) n (shape_of d e) (word_of (seen_in d now) e) 0 (starts (range_of d.signals name) n))
-        (range_of d.signals name) (all_bits d.signals name) n 0 (take n w)
+    (range_of d.signals name) (all_bits d.signals name) n 0 (take n w)
 
 -- the lowest index of [i : j]
 unfoldable pub low_end : Bounds → Whole → Whole → Whole

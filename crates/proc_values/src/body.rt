@@ -68,12 +68,7 @@ fn keep(
 }
 
 /// Whether the test of an `if` holds.
-fn tested(
-    alloc: Global,
-    design: &Design,
-    test: &Expr,
-    now: &[Tern],
-) -> Result<Tern, EvalFault>
+fn tested(alloc: Global, design: &Design, test: &Expr, now: &[Tern]) -> Result<Tern, EvalFault>
     ensures { IfOk result (λ t. t ≡ any_of (word_of (seen_in design.now now.now) test.now)) }
 {
     let word = eval(alloc, design, test, now)?;
@@ -112,7 +107,17 @@ fn run(
             match other {
                 None => keep(alloc, bits, hit, &first, now, next),
                 Some(other) => {
-                    choose(alloc, design, bits, marks, hit, &first, other.get(), now, next)
+                    choose(
+                        alloc,
+                        design,
+                        bits,
+                        marks,
+                        hit,
+                        &first,
+                        other.get(),
+                        now,
+                        next,
+                    )
                 }
             }
         }
@@ -252,8 +257,8 @@ fn tried_item(
     ensures next { OnOk result (next.new ≡ next.old) }
     ensures side { (other : Run) → IsSide bits.now (record { now = now.old; next = next.old }) other rest.now.seen.items rest.now.becomes.items →
         IfOk result (λ out. IsSide bits.now (record { now = now.old; next = next.old })
-            (chosen bits.now (any_hit design.now now.old choice.now.how (shape_of choice.now.context) choice.now.word.items labels.now) (run design.now bits.now body.now (record { now = now.old; next = next.old })) other)
-            out.seen.items out.becomes.items) }
+        (chosen bits.now (any_hit design.now now.old choice.now.how (shape_of choice.now.context) choice.now.word.items labels.now) (run design.now bits.now body.now (record { now = now.old; next = next.old })) other)
+        out.seen.items out.becomes.items) }
 {
     let Choice { how, context, word } = choice;
     let hit = any_hit(alloc, design, now, *how, *context, word.as_slice(), labels)?;
@@ -295,7 +300,9 @@ fn tried_items(
         let labels = labels_at(design, choice.context, arms, left);
         let body = arms[left].body.get();
         if !is_at(at, left) {
-            side = match tried_item(alloc, design, bits, marks, choice, body, labels, &side, now, next) {
+            side = match tried_item(
+                alloc, design, bits, marks, choice, body, labels, &side, now, next,
+            ) {
                 Ok(side) => side,
                 Err(fault) => return Err(fault),
             };
@@ -346,6 +353,14 @@ pub fn run_body(
     let marks = marked(alloc, bits, state.len())?;
     let mut now = state.to_vec(alloc)?;
     let mut next = state.to_vec(alloc)?;
-    run(alloc, design, bits, marks.as_slice(), body, &mut now, &mut next)?;
+    run(
+        alloc,
+        design,
+        bits,
+        marks.as_slice(),
+        body,
+        &mut now,
+        &mut next,
+    )?;
     gathered(alloc, bits, next.as_slice())
 }

@@ -16,7 +16,11 @@ fn value(state: &[Tern], bit: u32) -> Tern
     ensures { result ≡ value_at state.now bit }
 {
     let n = bit as usize;
-    if n < state.len() { state[n] } else { Tern::Unsettled }
+    if n < state.len() {
+        state[n]
+    } else {
+        Tern::Unsettled
+    }
 }
 
 /// Which bits are among these, one flag a bit.
@@ -70,7 +74,11 @@ fn strike(bits: &[u32], marks: &[bool], stroke: Stroke, state: &mut [Tern])
 {
     if is_marked(marks, stroke.bit) {
         let so_far = value(state, stroke.bit);
-        set_value(state, stroke.bit, Tern::mux(stroke.hit, stroke.value, so_far));
+        set_value(
+            state,
+            stroke.bit,
+            Tern::mux(stroke.hit, stroke.value, so_far),
+        );
     }
 }
 

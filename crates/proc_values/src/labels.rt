@@ -81,11 +81,7 @@ pub(crate) fn free_of(alloc: Global, design: &Design, e: &Expr) -> Result<Vec<bo
 
 /// The same of members side by side.
 #[cycle(masking)]
-fn joined_free(
-    alloc: Global,
-    design: &Design,
-    members: &[Expr],
-) -> Result<Vec<bool>, EvalFault>
+fn joined_free(alloc: Global, design: &Design, members: &[Expr]) -> Result<Vec<bool>, EvalFault>
     ensures { IfOk result (λ f. f.items ≡ joined_free design.now (map (λ e. (e, free_of design.now e)) members.now)) }
 {
     let mut all = Vec::new(alloc);
@@ -116,12 +112,7 @@ fn fitted_part(alloc: Global, design: &Design, e: &Expr) -> Result<Vec<bool>, Ev
 
 /// Positions that don't count.
 #[tactic(auto, unfolding(crate::specs::Labels::free_in))]
-fn free_in(
-    alloc: Global,
-    design: &Design,
-    how: Matching,
-    e: &Expr,
-) -> Result<Vec<bool>, EvalFault>
+fn free_in(alloc: Global, design: &Design, how: Matching, e: &Expr) -> Result<Vec<bool>, EvalFault>
     ensures { IfOk result (λ f. f.items ≡ free_in design.now how e.now) }
 {
     match how {

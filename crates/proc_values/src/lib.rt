@@ -7,18 +7,20 @@
 //! `proc_cases` for which cases are full. Gates of processes are drawn after it.
 #![tactic(auto)]
 
-mod hits;
-mod indices;
-mod stroke;
 mod body;
 mod cases;
 mod changes;
 mod contexts;
+mod hits;
+mod indices;
 mod labels;
 mod sides;
 mod sizes;
+mod stroke;
 mod strokes;
 mod targets;
 mod writes;
 
+pub use body::run_body;
+#[doc(hidden)]
 pub use stroke::Stroke;

@@ -58,6 +58,11 @@ pub(crate) fn mixed_sides(
     ensures next { IfOk result (λ side. side.becomes.items ≡ select_of select first.now.becomes.items second.now.becomes.items) }
 {
     let seen = mixed(alloc, select, first.seen.as_slice(), second.seen.as_slice())?;
-    let becomes = mixed(alloc, select, first.becomes.as_slice(), second.becomes.as_slice())?;
+    let becomes = mixed(
+        alloc,
+        select,
+        first.becomes.as_slice(),
+        second.becomes.as_slice(),
+    )?;
     Ok(Side { seen, becomes })
 }

@@ -174,6 +174,13 @@ pub(crate) fn put_fixed(
     }
     match fixed_start(select, index) {
         None => Ok(()),
-        Some(start) => put_from(Tern::One, select, bits, start, first(word, select.width), strokes),
+        Some(start) => put_from(
+            Tern::One,
+            select,
+            bits,
+            start,
+            first(word, select.width),
+            strokes,
+        ),
     }
 }

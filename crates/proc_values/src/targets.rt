@@ -120,7 +120,14 @@ fn put_written(
         Part::Fixed => {
             let low = number(alloc, first)?;
             let high = number(alloc, second)?;
-            put_part(range_of(design, name), all_bits(design, name), low, high, word, out)
+            put_part(
+                range_of(design, name),
+                all_bits(design, name),
+                low,
+                high,
+                word,
+                out,
+            )
         }
         Part::Up | Part::Down => {
             let width = count(alloc, second)?;
