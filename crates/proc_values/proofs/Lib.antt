@@ -1,0 +1,13 @@
+mod HitLemmas
+mod StrokeLemmas
+mod ShapeLemmas
+mod TargetForms
+mod MemberLemmas
+mod SizeLemmas
+mod ContextLemmas
+mod LabelForms
+mod LabelLemmas
+mod ChangeLemmas
+mod BodyForms
+mod RunLemmas
+mod CaseLemmas

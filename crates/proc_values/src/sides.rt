@@ -1,0 +1,68 @@
+//! What a side of a choice leaves at the bits of the process.
+ghost use Rattle.std.specs.Prelude.{◌≡◌, length, IfOk, OnOk};
+ghost use Rattle.rdc_tern.specs.declared.value.Tern.{Tern};
+ghost use Rattle.rdc_tern.specs.Shifts.{select_of};
+ghost use Rattle.proc_values.specs.Runs.{Run, chosen, values_of};
+ghost use Rattle.proc_values.specs.Marks.{IsSide, scattered};
+
+use crate::changes::{gathered, mixed, put_back};
+use design_form::EvalFault;
+use rdc_tern::Tern;
+use std::alloc::Global;
+
+/// The values of the bits of the process.
+#[derive(Drop)]
+pub(crate) struct Side {
+    /// As reads see them.
+    pub(crate) seen: Vec<Tern>,
+    /// As they become.
+    pub(crate) becomes: Vec<Tern>,
+}
+
+/// The values that the bits have.
+pub(crate) fn side_of(
+    alloc: Global,
+    bits: &[u32],
+    now: &[Tern],
+    next: &[Tern],
+) -> Result<Side, EvalFault>
+    ensures now { IfOk result (λ side. side.seen.items ≡ values_of now.now bits.now) }
+    ensures next { IfOk result (λ side. side.becomes.items ≡ values_of next.now bits.now) }
+{
+    let seen = gathered(alloc, bits, now)?;
+    let becomes = gathered(alloc, bits, next)?;
+    Ok(Side { seen, becomes })
+}
+
+/// The bits get these values.
+pub(crate) fn put_side(bits: &[u32], side: &Side, now: &mut [Tern], next: &mut [Tern])
+    requires now { length side.now.seen.items ≡ length bits.now }
+    requires next { length side.now.becomes.items ≡ length bits.now }
+    ensures now { now.new ≡ scattered bits.now side.now.seen.items now.old }
+    ensures next { next.new ≡ scattered bits.now side.now.becomes.items next.old }
+{
+    put_back(bits, side.seen.as_slice(), now);
+    put_back(bits, side.becomes.as_slice(), next);
+}
+
+/// Bit by bit the first side where the selection is 1, the second where it is 0.
+pub(crate) fn mixed_sides(
+    alloc: Global,
+    select: Tern,
+    first: &Side,
+    second: &Side,
+) -> Result<Side, EvalFault>
+    requires now { length first.now.seen.items ≡ length second.now.seen.items }
+    requires next { length first.now.becomes.items ≡ length second.now.becomes.items }
+    ensures now { IfOk result (λ side. side.seen.items ≡ select_of select first.now.seen.items second.now.seen.items) }
+    ensures next { IfOk result (λ side. side.becomes.items ≡ select_of select first.now.becomes.items second.now.becomes.items) }
+{
+    let seen = mixed(alloc, select, first.seen.as_slice(), second.seen.as_slice())?;
+    let becomes = mixed(
+        alloc,
+        select,
+        first.becomes.as_slice(),
+        second.becomes.as_slice(),
+    )?;
+    Ok(Side { seen, becomes })
+}
