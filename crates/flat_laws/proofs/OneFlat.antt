@@ -155,8 +155,13 @@ steps lib name d gives =
     let c = followed (checked n.value (places_of gives.signals) s.value.size) _ d n.follows in
     let is_d : n.value ≡ d = cc in
     record {
-      top = top.value; ports = ports.value; state = s.value;
-      top_is = top.there; ports_are = ports.there; state_is = s.there; once = apart.there;
+      top = top.value;
+      ports = ports.value;
+      state = s.value;
+      top_is = top.there;
+      ports_are = ports.there;
+      state_is = s.there;
+      once = apart.there;
       is = numbered_is top.value.body.name.place (laid gives.signals ports.value s.value.plan) n.value n.there ∙ is_d;
     }
 

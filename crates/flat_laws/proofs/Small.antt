@@ -114,7 +114,9 @@ load_form s n x h = go (out-Stmt s) refl
         let called : f.value ≡ n = ap (λ (p : List ℕ × Expr). p.0) pair in
         let given : value ≡ x = ap (λ (p : List ℕ × Expr). p.1) pair in
         record {
-          place = place; target = target; by = by;
+          place = place;
+          target = target;
+          by = by;
           is = sym (roll-out-Stmt s) ∙ ap roll-Stmt e ∙ stmt.rolls-Assign place target by value ∙ ap (stmt.Assign place target by) given;
           name = f.there ∙ ap (λ (m : List ℕ). Some m) called;
         }
@@ -152,8 +154,14 @@ two_branches s place test chosen other b layer h =
     let name_is : load.value.0 ≡ b.2.0 = ap (λ (p : Branches). p.2.0) is in
     let expr_is : next.value ≡ b.2.1 = ap (λ (p : Branches). p.2.1) is in
     record {
-      place = place; test = test; chosen = chosen; other = other; is = layer;
-      cleared = clear.value.0; bit = clear.value.1; clears = load_form chosen clear.value.0 clear.value.1 clear.there;
+      place = place;
+      test = test;
+      chosen = chosen;
+      other = other;
+      is = layer;
+      cleared = clear.value.0;
+      bit = clear.value.1;
+      clears = load_form chosen clear.value.0 clear.value.1 clear.there;
       value = load.value.1;
       loads = subst (λ (m : List ℕ). Loads other m load.value.1) name_is (load_form other load.value.0 load.value.1 load.there);
       says = next.there ∙ ap (λ (x : tree.Expr). Some x) expr_is;
@@ -249,20 +257,24 @@ one_process d p q u h un =
     let same : r.value.data ≡ q.data = ap (λ (b : tree.Process). b.data) so.1 in
     let f = process_form p.control p.body r.value r.there in
     let calm : has_loop p.body ≡ false =
-        ap has_loop f.is ∙ loop-If-Some f.place f.test f.chosen f.other
-        ∙ ap (λ (s : Stmt). has_loop s || has_loop f.other) f.clears.is ∙ ap (λ (s : Stmt). has_loop (stmt.Assign f.clears.place f.clears.target f.clears.by f.bit) || has_loop s) f.loads.is
-        ∙ ap (λ (b : Bool). b || has_loop (stmt.Assign f.loads.place f.loads.target f.loads.by f.value)) (loop-Assign f.clears.place f.clears.target f.clears.by f.bit) ∙ loop-Assign f.loads.place f.loads.target f.loads.by f.value in
+    ap has_loop f.is ∙ loop-If-Some f.place f.test f.chosen f.other
+    ∙ ap (λ (s : Stmt). has_loop s || has_loop f.other) f.clears.is ∙ ap (λ (s : Stmt). has_loop (stmt.Assign f.clears.place f.clears.target f.clears.by f.bit) || has_loop s) f.loads.is
+    ∙ ap (λ (b : Bool). b || has_loop (stmt.Assign f.loads.place f.loads.target f.loads.by f.value)) (loop-Assign f.clears.place f.clears.target f.clears.by f.bit) ∙ loop-Assign f.loads.place f.loads.target f.loads.by f.value in
     let stays = bodies_stay p.body calm in
     let whole : Ok (record { body = p.body; turns = 0; headers = 0; is_cut = false }) ≡ Ok u = sym stays ∙ un in
     let body_is : p.body ≡ u.body = cc in
     let parts_are : sized_statement d u.body ≡ sized_alone d f.test ++ (sized_statement d f.chosen ++ sized_assignment d f.loads.target f.value) =
-        ap (sized_statement d) (sym body_is ∙ f.is) ∙ parts-If-Some d f.place f.test f.chosen f.other
-        ∙ ap (λ (s : Stmt). sized_alone d f.test ++ (sized_statement d f.chosen ++ sized_statement d s)) f.loads.is
-        ∙ ap (λ (ps : List Sized). sized_alone d f.test ++ (sized_statement d f.chosen ++ ps)) (parts-Assign d f.loads.place f.loads.target f.loads.by f.value) in
-    omega (arith, ap (λ (e : tree.Expr). length (postfix e)) same, assignment_weighs d f.loads.target f.value r.value.loaded known.0 r.value.data f.loads.name known.1 f.says,
-    ap (parts_weight d) parts_are,
-    sum_by-append (part_weight d) (sized_alone d f.test) (sized_statement d f.chosen ++ sized_assignment d f.loads.target f.value),
-    sum_by-append (part_weight d) (sized_statement d f.chosen) (sized_assignment d f.loads.target f.value))
+    ap (sized_statement d) (sym body_is ∙ f.is) ∙ parts-If-Some d f.place f.test f.chosen f.other
+    ∙ ap (λ (s : Stmt). sized_alone d f.test ++ (sized_statement d f.chosen ++ sized_statement d s)) f.loads.is
+    ∙ ap (λ (ps : List Sized). sized_alone d f.test ++ (sized_statement d f.chosen ++ ps)) (parts-Assign d f.loads.place f.loads.target f.loads.by f.value) in
+    omega (
+      arith,
+      ap (λ (e : tree.Expr). length (postfix e)) same,
+      assignment_weighs d f.loads.target f.value r.value.loaded known.0 r.value.data f.loads.name known.1 f.says,
+      ap (parts_weight d) parts_are,
+      sum_by-append (part_weight d) (sized_alone d f.test) (sized_statement d f.chosen ++ sized_assignment d f.loads.target f.value),
+      sum_by-append (part_weight d) (sized_statement d f.chosen) (sized_assignment d f.loads.target f.value),
+    )
 
 process_weighs : (d : Parts) (p : flat.Process) (u : Unrolled) → unrolled p.body ≡ Ok u → process_steps d p ≤ body_weight d u
 process_weighs d p u un = go (process_in d p) refl
@@ -346,8 +358,14 @@ all_steps {A} {B} f g (x ∷ xs) ys h =
     let first = options.followed (f x) _ ys h in
     let r = options.followed (all_of f xs) _ ys first.follows in
     let same : first.value ∷ r.value ≡ ys = cc in
-    omega (arith, ap (sum_by (λ (y : B). length (postfix (g y)))) same, sum_by-cons (λ (y : B). length (postfix (g y))) first.value r.value,
-    all_steps f g xs r.value r.there, sum_by-cons (λ (z : A). steps_if g (f z)) x xs, ap (steps_if g) first.there)
+    omega (
+      arith,
+      ap (sum_by (λ (y : B). length (postfix (g y)))) same,
+      sum_by-cons (λ (y : B). length (postfix (g y))) first.value r.value,
+      all_steps f g xs r.value r.there,
+      sum_by-cons (λ (z : A). steps_if g (f z)) x xs,
+      ap (steps_if g) first.there,
+    )
 
 all_counted : {A B : Type 0} (f : A → Option B) (xs : List A) (ys : List B) → all_of f xs ≡ Some ys → length ys ≡ length xs
 unfolding all_of
@@ -378,10 +396,15 @@ form_small d t h =
     let xs = options.followed (all_of (assignment_in d) d.drivers) _ t ss.follows in
     let ps = options.followed (all_of (process_in d) d.processes) _ t xs.follows in
     let so = options.held (is_empty d.boxes && is_empty d.gates) (without_clocks d ss.value xs.value ps.value) t ps.follows in
-    omega (arith, ap size so.1, fewer (stays d ps.value) ss.value, less (λ (a : tree.Assignment). length (postfix a.value)) (λ a. not (is_clock d ps.value a.target)) xs.value,
-    all_counted (signal_in (input_names d.ports)) d.signals ss.value ss.there,
-    all_steps (assignment_in d) (λ (a : tree.Assignment). a.value) d.drivers xs.value xs.there,
-    all_steps (process_in d) (λ (p : tree.Process). p.data) d.processes ps.value ps.there)
+    omega (
+      arith,
+      ap size so.1,
+      fewer (stays d ps.value) ss.value,
+      less (λ (a : tree.Assignment). length (postfix a.value)) (λ a. not (is_clock d ps.value a.target)) xs.value,
+      all_counted (signal_in (input_names d.ports)) d.signals ss.value ss.there,
+      all_steps (assignment_in d) (λ (a : tree.Assignment). a.value) d.drivers xs.value xs.there,
+      all_steps (process_in d) (λ (p : tree.Process). p.data) d.processes ps.value ps.there,
+    )
 
 -- ---- designs
 
@@ -411,5 +434,13 @@ are_small lib name d t gives said =
     let w = followed (tallied n.value s.value.size) _ c.value u.follows in
     let light = design_weighs n.value s.value.size w.value fits.below w.there in
     let form = form_small n.value t (ap form_of is_d ∙ said) in
-    omega (arith, form, light.0, light.1, fits.signals, length_permutation s.value.plan.draft.drawn.signals gives.signals order.same,
-    sym (ap (λ (p : Parts). length p.signals) laid_is), length-map gives.signals (λ (p : Placed). p.signal))
+    omega (
+      arith,
+      form,
+      light.0,
+      light.1,
+      fits.signals,
+      length_permutation s.value.plan.draft.drawn.signals gives.signals order.same,
+      sym (ap (λ (p : Parts). length p.signals) laid_is),
+      length-map gives.signals (λ (p : Placed). p.signal),
+    )

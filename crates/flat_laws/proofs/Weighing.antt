@@ -69,8 +69,15 @@ of_brackets place m e is =
     let named = named-Brackets place m.0 ∙ inner.named in
     subst (IsWeighed (Brackets place m.0)) i.is (record {
       named = named;
-      heavy = λ d c wide. omega (arith, wide, weighed d c (Brackets place m.0) named, weight-Brackets d (shape_of d (Brackets place m.0)).width c.width place m.0,
-          ap (parts_weight d) (below-Brackets d place m.0 c false), inner.heavy d c wide, length-append (postfix i.value) (brackets ∷ []));
+      heavy = λ d c wide. omega (
+        arith,
+        wide,
+        weighed d c (Brackets place m.0) named,
+        weight-Brackets d (shape_of d (Brackets place m.0)).width c.width place m.0,
+        ap (parts_weight d) (below-Brackets d place m.0 c false),
+        inner.heavy d c wide,
+        length-append (postfix i.value) (brackets ∷ []),
+      );
     })
 
 in_context : (a c : Shape) → unary_context unary.Invert a c ≡ c
@@ -91,8 +98,16 @@ of_invert place m e is =
       named = named;
       heavy = λ d c wide.
           let under = ap (parts_weight d) (below-Unary d place unary.Invert m.0 c false) ∙ ap (λ (s : Shape). parts_weight d (sized d s false m.0)) (in_context (shape_of d m.0) c) in
-          omega (arith, wide, weighed d c (Unary place unary.Invert m.0) named, weight-Unary d (shape_of d (Unary place unary.Invert m.0)).width c.width place unary.Invert m.0, invert_weighs c.width,
-          under, inner.heavy d c wide, length-append (postfix i.value) (negation ∷ []));
+          omega (
+            arith,
+            wide,
+            weighed d c (Unary place unary.Invert m.0) named,
+            weight-Unary d (shape_of d (Unary place unary.Invert m.0)).width c.width place unary.Invert m.0,
+            invert_weighs c.width,
+            under,
+            inner.heavy d c wide,
+            length-append (postfix i.value) (negation ∷ []),
+          );
     })
 
 -- an operator that is said has its operands said, stands over them in its context, and weighs it
@@ -151,11 +166,20 @@ of_binary place op l r e is =
       heavy = λ d c wide.
           let over = j.over (shape_of d l.0) (shape_of d r.0) c in
           let under = ap (parts_weight d) (below-Binary d place op l.0 r.0 c false)
-              ∙ sum_by-append (part_weight d) (sized d (left_context op (shape_of d l.0) (shape_of d r.0) c) false l.0) (sized d (right_context op (shape_of d l.0) (shape_of d r.0) c) false r.0)
-              ∙ ap (λ (s : Shape). parts_weight d (sized d s false l.0) + parts_weight d (sized d (right_context op (shape_of d l.0) (shape_of d r.0) c) false r.0)) over.0
-              ∙ ap (λ (s : Shape). parts_weight d (sized d c false l.0) + parts_weight d (sized d s false r.0)) over.1 in
-          omega (arith, wide, weighed d c (Binary place op l.0 r.0) named, weight-Binary d (shape_of d (Binary place op l.0 r.0)).width c.width place op l.0 r.0, j.weighs c.width (shape_of d r.0).width,
-          under, left.heavy d c wide, right.heavy d c wide, j.steps);
+          ∙ sum_by-append (part_weight d) (sized d (left_context op (shape_of d l.0) (shape_of d r.0) c) false l.0) (sized d (right_context op (shape_of d l.0) (shape_of d r.0) c) false r.0)
+          ∙ ap (λ (s : Shape). parts_weight d (sized d s false l.0) + parts_weight d (sized d (right_context op (shape_of d l.0) (shape_of d r.0) c) false r.0)) over.0
+          ∙ ap (λ (s : Shape). parts_weight d (sized d c false l.0) + parts_weight d (sized d s false r.0)) over.1 in
+          omega (
+            arith,
+            wide,
+            weighed d c (Binary place op l.0 r.0) named,
+            weight-Binary d (shape_of d (Binary place op l.0 r.0)).width c.width place op l.0 r.0,
+            j.weighs c.width (shape_of d r.0).width,
+            under,
+            left.heavy d c wide,
+            right.heavy d c wide,
+            j.steps,
+          );
     }
 
 none_inverted : (op : unaries.Unary) → (op ≡ unary.Invert → ⊥) → (o : Option tree.Expr) → inverted op o ≡ None

@@ -94,7 +94,7 @@ same_end {text = text} expansion = ap (λ (bs : List ℕ). place_at text.places 
 have : (told : Option Files) (r : Request) (loaded : List (List ℕ)) (text : Text) (expansion : IsExpansion told r.files loaded text) (tokens : List Token) → AreTokens 0 text.bytes tokens → HaveTokens told r loaded expansion.known tokens
 have told r loaded text expansion tokens are = record { expand = expansion.expands; are_tokens = subst (λ (bytes : List ℕ). AreTokens 0 bytes tokens) expansion.is_text.bytes are }
 
-spelled : (told : Option Files) (r : Request) (loaded : List (List ℕ)) (text : Text) (expansion : IsExpansion told r.files loaded text) (tokens : List Token) (ms : List Module) → AreTokens 0 text.bytes tokens
+abbrev spelled : (told : Option Files) (r : Request) (loaded : List (List ℕ)) (text : Text) (expansion : IsExpansion told r.files loaded text) (tokens : List Token) (ms : List Module) → AreTokens 0 text.bytes tokens
     → parse.IsAnswer (lexemes text.bytes text.places tokens) ms → SpellModules told r loaded ms
 spelled told r loaded text expansion tokens ms are is = record {
   known = expansion.known;

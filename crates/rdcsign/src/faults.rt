@@ -102,7 +102,13 @@ pub fn stopped<'a>(alloc: Global, stop: Stopped) -> Refusal<'a>
         PreFault::UnknownDirective(place) => with_place(alloc, b"unknowndirective ", files, place),
         PreFault::Unbalanced(place) => with_place(alloc, b"unbalanced ", files, place),
         PreFault::BadMacroUse(place) => with_place(alloc, b"badmacrouse ", files, place),
-        PreFault::MacroLoop(name, place) => with_both(alloc, b"macroloop ", name.as_slice(), files, place),
+        PreFault::MacroLoop(name, place) => with_both(
+            alloc,
+            b"macroloop ",
+            name.as_slice(),
+            files,
+            place,
+        ),
         PreFault::TooDeep(place) => with_place(alloc, b"toodeep ", files, place),
     }
 }
@@ -126,7 +132,13 @@ fn unparsed<'a>(alloc: Global, files: &[String], fault: ParseFault) -> Refusal<'
 {
     match fault {
         ParseFault::Memory => Refusal::Memory,
-        ParseFault::Unsupported(word, place) => with_both(alloc, b"unsupported ", word.as_slice(), files, place),
+        ParseFault::Unsupported(word, place) => with_both(
+            alloc,
+            b"unsupported ",
+            word.as_slice(),
+            files,
+            place,
+        ),
         ParseFault::Syntax(place) => with_place(alloc, b"syntax ", files, place),
         ParseFault::TooDeep(place) => with_place(alloc, b"toodeep ", files, place),
     }
@@ -159,6 +171,19 @@ fn without_module<'a>(
     }
 }
 
+/// Refuses the source with a word, a name and a place.
+fn named<'a>(
+    alloc: Global,
+    word: &[u8],
+    name: &Seq<u8>,
+    files: &[String],
+    place: Place,
+) -> Refusal<'a>
+    ensures { IsOrMemory (refused result) (Source (word.now ++ (name.now ++ (codes " " ++ place_text (texts files.now) place)))) }
+{
+    with_both(alloc, word, name.as_slice(), files, place)
+}
+
 /// The refusal of modules that give no flat design.
 fn unelaborated<'a>(alloc: Global, files: &[String], fault: ElabFault) -> Refusal<'a>
     ensures { IsOrMemory (refused result) (unelaborated (texts files.now) fault) }
@@ -166,20 +191,20 @@ fn unelaborated<'a>(alloc: Global, files: &[String], fault: ElabFault) -> Refusa
     match fault {
         ElabFault::Memory => Refusal::Memory,
         ElabFault::NoModule(name, at) => without_module(alloc, files, name.as_slice(), at),
-        ElabFault::TwoModules(name, at) => with_both(alloc, b"twomodules ", name.as_slice(), files, at),
-        ElabFault::NoPort(name, at) => with_both(alloc, b"noport ", name.as_slice(), files, at),
+        ElabFault::TwoModules(name, at) => named(alloc, b"twomodules ", &name, files, at),
+        ElabFault::NoPort(name, at) => named(alloc, b"noport ", &name, files, at),
         ElabFault::PortCount(at) => with_place(alloc, b"portcount ", files, at),
-        ElabFault::Undeclared(name, at) => with_both(alloc, b"undeclared ", name.as_slice(), files, at),
-        ElabFault::TwiceDeclared(name, at) => with_both(alloc, b"twicedeclared ", name.as_slice(), files, at),
+        ElabFault::Undeclared(name, at) => named(alloc, b"undeclared ", &name, files, at),
+        ElabFault::TwiceDeclared(name, at) => named(alloc, b"twicedeclared ", &name, files, at),
         ElabFault::NotAssignable(at) => with_place(alloc, b"notassignable ", files, at),
-        ElabFault::Recursion(name, at) => with_both(alloc, b"recursion ", name.as_slice(), files, at),
+        ElabFault::Recursion(name, at) => named(alloc, b"recursion ", &name, files, at),
         ElabFault::HierLimit(at) => with_place(alloc, b"hierlimit ", files, at),
         ElabFault::BadRange(at) => with_place(alloc, b"badrange ", files, at),
         ElabFault::WidthLimit(at) => with_place(alloc, b"widthlimit ", files, at),
         ElabFault::GenerateLimit(at) => with_place(alloc, b"generatelimit ", files, at),
         ElabFault::Const(fault) => unvalued(alloc, files, fault),
-        ElabFault::Undriven(name, at) => with_both(alloc, b"undriven ", name.as_slice(), files, at),
-        ElabFault::TwiceDriven(name, at) => with_both(alloc, b"twicedriven ", name.as_slice(), files, at),
+        ElabFault::Undriven(name, at) => named(alloc, b"undriven ", &name, files, at),
+        ElabFault::TwiceDriven(name, at) => named(alloc, b"twicedriven ", &name, files, at),
         ElabFault::Heavy(at) => with_place(alloc, b"heavy ", files, at),
         ElabFault::NotBuilt(at) => with_place(alloc, b"notbuilt ", files, at),
     }

@@ -29,7 +29,12 @@ fn clocks<'a>(alloc: Global, processes: &[Process<'a>]) -> Result<Vec<&'a [u8]>,
 
 /// Whether a name leads to a clock.
 #[tactic(auto, unfolding(crate::specs::Form::is_clock))]
-fn is_clock<'a>(names: &Names<'a>, clocks: &Places, processes: &[Process<'a>], name: &'a [u8]) -> bool
+fn is_clock<'a>(
+    names: &Names<'a>,
+    clocks: &Places,
+    processes: &[Process<'a>],
+    name: &'a [u8],
+) -> bool
     requires { places_at clocks.now ≡ index_of (map (λ p. p.clock) (map a_process processes.now)) }
     ensures { result ≡ is_clock names.now.design.now (map a_process processes.now) name.now }
 {

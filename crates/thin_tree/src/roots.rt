@@ -52,10 +52,7 @@ fn push_copy<'a>(links: &mut Vec<Link<'a>>, driver: &'a Driver) -> Result<(), Al
 
 /// The copies among drivers.
 #[tactic(auto, unfolding(crate::specs::Copies::copies))]
-pub(crate) fn links<'a>(
-    alloc: Global,
-    drivers: &'a [Driver],
-) -> Result<Vec<Link<'a>>, AllocError>
+pub(crate) fn links<'a>(alloc: Global, drivers: &'a [Driver]) -> Result<Vec<Link<'a>>, AllocError>
     ensures { IfOk result (λ v. all_copies v.items ≡ copies drivers.now) }
 {
     let mut links = Vec::new(alloc);

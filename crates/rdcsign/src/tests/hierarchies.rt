@@ -89,7 +89,11 @@ endmodule
     )?;
     expect(
         &rt,
-        &make_case(&CHECK, "rdc 1\nclock ca\nreset ra low\nreset rb low\n", &source),
+        &make_case(
+            &CHECK,
+            "rdc 1\nclock ca\nreset ra low\nreset rb low\n",
+            &source,
+        ),
         Status::Hazard,
         "rdc report 1\ntop m\nedge g[0].x.q crossing\nedge g[1].x.q crossing\nsame 2 crossing 2\nverdict crossing\n",
     )
@@ -137,7 +141,10 @@ fn faults_of_elaboration_are_named(rt: HostRuntime) -> Result<(), Fail> {
 fn what_is_below_an_instance_is_named_by_the_first_file(rt: HostRuntime) -> Result<(), Fail> {
     let words = ["check", "t", "m.rdc", "t.v", "c.v"];
     let others = [
-        ("t.v", "module t(input a, output y);\n  c u(a, y);\nendmodule\n"),
+        (
+            "t.v",
+            "module t(input a, output y);\n  c u(a, y);\nendmodule\n",
+        ),
         (
             "c.v",
             "module c(input a, output y);\n  wire [1:0] w;\n  assign w = a;\n  assign y = w[0];\nendmodule\n",

@@ -15,5 +15,5 @@ returns-in-Err c =
     ends_faulty (seen c.args.request.now) c.args.constraints.now c.args.text.now (refused c.faulty.result) c.in-Err.fault c.in-Err.ensures
     (subst (λ (files : List (String Global)). IsOrMemory (refused c.faulty.result) (faulty (texts files) c.in-Err.fault)) c.as_slice.ensures c.faulty.ensures)
 
-pub returns : goal.returns
-returns c = ends_judged (seen c.args.request.now) c.args.constraints.now c.args.text.now (outcome_of c.judge_flat.result) c.in-Ok.flat c.in-Ok.ensures c.judge_flat.ensures
+pub returns-in-Ok : goal.returns-in-Ok
+returns-in-Ok c = ends_judged (seen c.args.request.now) c.args.constraints.now c.args.text.now (outcome_of c.judge_flat.result) c.in-Ok.flat c.in-Ok.ensures c.judge_flat.ensures
