@@ -54,13 +54,28 @@ fn bits_of(alloc: Global, design: &Design, assigned: &Assigned) -> Result<String
     Ok(out)
 }
 
-fn first(alloc: Global, design: &Design) -> Result<String, Fail> {
-    if design.parts().processes.len() == 0 {
-        return Err(Fail::new("no process"));
+fn shown(
+    alloc: Global,
+    design: &Design,
+    answer: Result<Assigned, ProcFault>,
+) -> Result<String, AllocError> {
+    match answer {
+        Ok(assigned) => bits_of(alloc, design, &assigned),
+        Err(fault) => stopped(alloc, fault),
     }
-    match run_process(alloc, design, 0) {
-        Ok(assigned) => Ok(bits_of(alloc, design, &assigned)?),
-        Err(fault) => Ok(stopped(alloc, fault)?),
+}
+
+fn answer(alloc: Global, design: &Design) -> Option<Result<Assigned, ProcFault>> {
+    if design.parts().processes.as_slice().is_empty() {
+        return None;
+    }
+    Some(run_process(alloc, design, 0))
+}
+
+fn first(alloc: Global, design: &Design) -> Result<String, Fail> {
+    match answer(alloc, design) {
+        Some(found) => Ok(shown(alloc, design, found)?),
+        None => Err(Fail::new("no process")),
     }
 }
 
