@@ -4,3 +4,4 @@ pub mod Labels
 pub mod Cases
 pub mod Bodies
 pub mod Laws
+pub mod Ready

@@ -5,7 +5,9 @@
 //! The net: stands on `net_exprs` for the gates of expressions, and on `proc_values` for what bodies are worth.
 #![tactic(auto)]
 
+mod changes;
 mod stroke;
+mod wires;
 
 #[doc(hidden)]
 pub use stroke::Stroke;
