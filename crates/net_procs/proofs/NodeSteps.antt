@@ -10,7 +10,10 @@ use Rattle.net_words.proofs.WordSteps.{drop_here}
 use Rattle.net_exprs.specs.Names.{node_at}
 use Rattle.proc_values.specs.Runs.{is_among}
 use Rattle.net_procs.specs.declared.stroke.Stroke.{Stroke}
-use Rattle.net_procs.specs.Runs.{changed, changed_if, struck, scattered, nodes_of, mixed}
+use Rattle.vlog_tree.specs.declared.stmt.Assigns.{Assigns}
+use Rattle.vlog_tree.specs.declared.stmt.Assigns.TheVariants.{Blocking, Nonblocking}
+use Rattle.net_procs.specs.Runs.{Run, changed, changed_if, struck, scattered, nodes_of, mixed, chosen}
+use Rattle.net_procs.specs.Bodies.{written}
 
 -- ---- among
 
@@ -94,3 +97,55 @@ mixed_left net bits choice first nodes x y one other =
     subst (λ (w : List ℕ). IsLeft (mixed bits choice first nodes) net net (select choice w y >>= (λ word. return (scattered bits word nodes)))) (sym one)
     (subst (λ (w : List ℕ). IsLeft (mixed bits choice first nodes) net net (select choice (nodes_of first bits) w >>= (λ word. return (scattered bits word nodes)))) (sym other)
     (all_left (select choice (nodes_of first bits) (nodes_of nodes bits) >>= (λ word. return (scattered bits word nodes))) net))
+
+mixed_alike : (bits : List ℕ) (choice : ℕ) (x y a b : List ℕ) → x ≡ a → y ≡ b → mixed bits choice a b ≡ mixed bits choice x y
+mixed_alike bits choice x y a b one other = λ i. mixed bits choice (sym one i) (sym other i)
+
+pub mixed_next : {all : Build Run} {old now : List Numbered} (bits : List ℕ) (choice : ℕ) (x y a b : List ℕ) (k : List ℕ → Build Run) → x ≡ a → y ≡ b
+    → IsLeft all old now (mixed bits choice a b >>= k) → IsLeft all old now (mixed bits choice x y >>= k)
+mixed_next {all} {old} {now} bits choice x y a b k one other left = subst (λ (m : Build (List ℕ)). IsLeft all old now (m >>= k)) (mixed_alike bits choice x y a b one other) left
+
+pub chosen_left : (net : List Numbered) (bits : List ℕ) (choice : ℕ) (one other : Run) (x y : List ℕ) → x ≡ one.now → y ≡ other.now
+    → IsLeft (chosen bits choice one other) net net (mixed bits choice x y >>= (λ now. mixed bits choice one.next other.next >>= (λ next. return (record { now = now; next = next }))))
+unfolding chosen
+chosen_left net bits choice one other x y first second =
+    mixed_next bits choice x y one.now other.now (λ now. mixed bits choice one.next other.next >>= (λ next. return (record { now = now; next = next }))) first second
+    (all_left (mixed bits choice one.now other.now >>= (λ now. mixed bits choice one.next other.next >>= (λ next. return (record { now = now; next = next })))) net)
+
+-- both lists as they are kept
+pub returned : {all : Build Run} {old now : List Numbered} (a b x y : List ℕ) → x ≡ a → y ≡ b → IsLeft all old now (return (record { now = a; next = b })) → IsLeft all old now (return (record { now = x; next = y }))
+returned {all} {old} {now} a b x y first second left =
+    subst (λ (w : List ℕ). IsLeft all old now (return (record { now = w; next = y }))) (sym first) (subst (λ (w : List ℕ). IsLeft all old now (return (record { now = a; next = w }))) (sym second) left)
+
+-- ---- writes
+
+pub struck_alike : {all : Build Run} {old now : List Numbered} (bits : List ℕ) (ks : List Stroke) (x a : List ℕ) (k : List ℕ → Build Run) → x ≡ a
+    → IsLeft all old now (struck bits ks a >>= k) → IsLeft all old now (struck bits ks x >>= k)
+struck_alike {all} {old} {now} bits ks x a k same left = subst (λ (m : List ℕ). IsLeft all old now (struck bits ks m >>= k)) (sym same) left
+
+pub blocking_left : (net : List Numbered) (bits : List ℕ) (by : Assigns) (ks : List Stroke) (r : Run) (x : List ℕ) → by ≡ Blocking → x ≡ r.next
+    → IsLeft (written bits by ks r) net net (struck bits ks x >>= (λ next. struck bits ks r.now >>= (λ now. return (record { now = now; next = next }))))
+unfolding written
+blocking_left net bits by ks r x is same =
+    subst (λ (b : Assigns). IsLeft (written bits b ks r) net net (struck bits ks x >>= (λ next. struck bits ks r.now >>= (λ now. return (record { now = now; next = next }))))) (sym is)
+    (struck_alike bits ks x r.next (λ next. struck bits ks r.now >>= (λ now. return (record { now = now; next = next }))) same
+    (all_left (struck bits ks r.next >>= (λ next. struck bits ks r.now >>= (λ now. return (record { now = now; next = next })))) net))
+
+pub nonblocking_left : (net : List Numbered) (bits : List ℕ) (by : Assigns) (ks : List Stroke) (r : Run) (x : List ℕ) → by ≡ Nonblocking → x ≡ r.next
+    → IsLeft (written bits by ks r) net net (struck bits ks x >>= (λ next. return (record { now = r.now; next = next })))
+unfolding written
+nonblocking_left net bits by ks r x is same =
+    subst (λ (b : Assigns). IsLeft (written bits b ks r) net net (struck bits ks x >>= (λ next. return (record { now = r.now; next = next })))) (sym is)
+    (struck_alike bits ks x r.next (λ next. return (record { now = r.now; next = next })) same
+    (all_left (struck bits ks r.next >>= (λ next. return (record { now = r.now; next = next }))) net))
+
+-- what follows the first strokes
+unfoldable pub behind_strokes : List ℕ → Assigns → List Stroke → Run → List ℕ → Build Run
+behind_strokes bits Blocking ks r next = struck bits ks r.now >>= (λ now. return (record { now = now; next = next }))
+behind_strokes bits Nonblocking ks r next = return (record { now = r.now; next = next })
+
+pub strike_left : (net : List Numbered) (bits : List ℕ) (by : Assigns) (ks : List Stroke) (r : Run) (x : List ℕ) → x ≡ r.next
+    → IsLeft (written bits by ks r) net net (struck bits ks x >>= behind_strokes bits by ks r)
+unfolding behind_strokes
+strike_left net bits Blocking ks r x same = blocking_left net bits Blocking ks r x refl same
+strike_left net bits Nonblocking ks r x same = nonblocking_left net bits Nonblocking ks r x refl same

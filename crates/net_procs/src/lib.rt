@@ -8,6 +8,7 @@
 mod changes;
 mod stroke;
 mod wires;
+mod writes;
 
 #[doc(hidden)]
 pub use stroke::Stroke;
