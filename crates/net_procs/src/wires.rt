@@ -103,6 +103,13 @@ pub(crate) fn chosen(
         mut becomes,
     } = other;
     mixed(alloc, net, bits, choice, first.seen.as_slice(), &mut seen)?;
-    mixed(alloc, net, bits, choice, first.becomes.as_slice(), &mut becomes)?;
+    mixed(
+        alloc,
+        net,
+        bits,
+        choice,
+        first.becomes.as_slice(),
+        &mut becomes,
+    )?;
     Ok(Wires { seen, becomes })
 }
