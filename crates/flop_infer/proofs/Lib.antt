@@ -1,0 +1,5 @@
+mod Chains
+mod NoneForms
+mod FixedForms
+mod RefusedForms
+mod ConstantForms
