@@ -1,4 +1,5 @@
 mod Chains
+mod Ends
 mod NoneForms
 mod FixedForms
 mod RefusedForms
