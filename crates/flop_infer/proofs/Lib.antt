@@ -1,5 +1,6 @@
 mod Chains
 mod Ends
+mod Steps
 mod NoneForms
 mod FixedForms
 mod RefusedForms
