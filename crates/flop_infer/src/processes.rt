@@ -2,7 +2,7 @@
 ghost use Rattle.std.specs.Prelude.{◌≡◌};
 ghost use Rattle.flop_shapes.specs.Answers.{a_form};
 ghost use Rattle.flop_infer.specs.Faults.{Answers};
-ghost use Rattle.flop_infer.specs.Flops.{clocked_flops, flops, form_flops, frame, pinned_flops, process_flops, reset_flops};
+ghost use Rattle.flop_infer.specs.Flops.{a_part, clocked_flops, flops, form_flops, frame, pinned_flops, process_flops, reset_flops};
 
 use crate::fault::FlopFault;
 use crate::flop::{Flop, FlopList, Part};
@@ -28,6 +28,17 @@ fn frame(bit: u32, clock: &Event, part: usize) -> Frame
     }
 }
 
+/// The part of a process whose whole body is done at its clock.
+fn whole(number: usize, assigned: Assigned) -> Part
+    ensures { result ≡ a_part number assigned.bits assigned.body }
+{
+    Part {
+        process: number,
+        bits: assigned.bits,
+        body: assigned.body,
+    }
+}
+
 /// The flops of a process with a clock.
 #[tactic(auto, unfolding(crate::specs::Flops::clocked_flops, crate::specs::Faults::and_then))]
 fn clocked_flops(
@@ -44,11 +55,7 @@ fn clocked_flops(
     let bit = event_bit(alloc, design, process.place, clock)?;
     let frame = frame(bit, clock, list.parts.len());
     let flops = plain(alloc, frame, assigned.bits.as_slice())?;
-    let part = Part {
-        process: number,
-        bits: assigned.bits,
-        body: assigned.body,
-    };
+    let part = whole(number, assigned);
     put_part(list, &flops, part)?;
     Ok(())
 }
