@@ -9,7 +9,8 @@ use Rattle.vlog_tree.specs.declared.stmt.Matching.{Matching}
 use Rattle.vlog_const.specs.declared.shape.Shape.{Shape}
 use Rattle.design_form.specs.declared.parts.Parts.{Parts}
 use Rattle.net_words.specs.Builds.{Build, ◌>>=◌, return}
-use Rattle.net_words.specs.Bits.{xnor}
+use Rattle.net_words.specs.declared.bits.Bitwise.TheVariants as op
+use Rattle.net_words.specs.Bits.{bit}
 use Rattle.net_words.specs.Words.{any, all}
 use Rattle.net_exprs.specs.Names.{wired_in}
 use Rattle.net_exprs.specs.Lowered.{built_in}
@@ -20,12 +21,12 @@ unfoldable pub same_at : List Bool → List ℕ → List ℕ → Build (List ℕ
 same_at free [] y = return []
 same_at free (a ∷ x) [] = return []
 same_at [] (a ∷ x) (b ∷ y) = do
-  n ← xnor a b
+  n ← bit op.Xnor a b
   rest ← same_at [] x y
   return (n ∷ rest)
 same_at (true ∷ free) (a ∷ x) (b ∷ y) = same_at free x y
 same_at (false ∷ free) (a ∷ x) (b ∷ y) = do
-  n ← xnor a b
+  n ← bit op.Xnor a b
   rest ← same_at free x y
   return (n ∷ rest)
 

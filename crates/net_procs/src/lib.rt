@@ -7,6 +7,7 @@
 #![tactic(auto)]
 
 mod changes;
+mod labels;
 mod stroke;
 mod wires;
 mod writes;
