@@ -21,13 +21,16 @@ pub(crate) fn loop_at(
 {
     let mut found = Vec::new(alloc);
     'steps: while let Some(step) = steps.pop() {
-        if let Step::Leave(k) = step {
-            found.push(k)?;
-            if k == start {
-                break 'steps;
+        match step {
+            Step::Visit(_) => {}
+            Step::Leave(k) => {
+                found.push(k)?;
+                if k == start {
+                    found.reverse();
+                    return Ok(found);
+                }
             }
         }
     }
-    found.reverse();
-    Ok(found)
+    unreachable!()
 }

@@ -109,9 +109,11 @@ impl Walk {
         ensures steps { OnOk result (reverse self.new.steps.items ≡ map Visit (reads gates.now roots.now k) ++ (Leave k ∷ reverse self.old.steps.items)) }
         ensures done { OnOk result (self.new.done.items ≡ self.old.done.items) }
     {
+        let gate = gates[k as usize];
         self.marks[k as usize] = Mark::Open;
         self.steps.push(Step::Leave(k))?;
-        put_fan_ins(&mut self.steps, gates[k as usize], roots)
+        put_fan_ins(&mut self.steps, gate, roots)?;
+        Ok(())
     }
 
     /// A gate is left: it stands behind all that it reads.
@@ -150,7 +152,8 @@ pub fn order(
                 Mark::Done => {}
                 Mark::New => walk.enter(gates, roots, k)?,
                 Mark::Open => {
-                    return Err(OrderFault::Loop(loop_at(alloc, walk.steps, k)?));
+                    let found = loop_at(alloc, walk.steps, k)?;
+                    return Err(OrderFault::Loop(found));
                 }
             },
         }
