@@ -1,4 +1,5 @@
 use Rattle.std.proofs.Common.{◌≡◌, ◌∙◌, inl, refl, ap, sym, subst, map, reverse, set, replicate, length, arith, ◌<◌, ℕ, List, [], ◌++◌, ◌∷◌}
+use Rattle.std.proofs.lemmas.List.{nil_from_length}
 use Rattle.net_view.specs.View.{Numbered}
 use Rattle.net_gates.specs.Gates.{IsGateList}
 use Rattle.net_order.specs.declared.step.Step.{Step}
@@ -20,6 +21,33 @@ steps-init c =
       walk = walk_same (reads gates roots) (length gates) (roots_in roots) (orders.order gates roots) (replicate (length gates) New) c.in_ok-walk.walk.marks.items (map Visit (roots_in roots)) (reverse c.in_ok-walk.walk.steps.items) [] c.in_ok-walk.walk.done.items
           c.in_ok-walk.ensures.marks c.in_ok-walk.ensures.steps c.in_ok-walk.ensures.done
           (begun (reads gates roots) (length gates) (roots_in roots) (roots_inside (length gates) roots inside));
+    }
+
+pub steps-smaller-in-Continue-branch-2 : goal.steps-smaller-in-Continue-branch-2
+steps-smaller-in-Continue-branch-2 c =
+    let gates = c.gates-gates.result.now in
+    let roots = c.args.roots.now in
+    let ms = c.steps.walk.marks.items in
+    let k = c.in-Leave.k in
+    let now = taken c.steps.walk.steps.items c.pop.new.self.items c.in-Some.step (Leave k) c.in-Some.ensures.items c.in-Leave.is in
+    let w = subst (λ (s : List Step). IsWalk (reads gates roots) (length gates) (roots_in roots) (orders.order gates roots) ms s c.steps.walk.done.items) now c.steps.invariant.walk in
+    less_leave ms c.leave.new.self.marks.items k c.steps.walk.steps.items c.pop.new.self.items c.leave.new.self.steps.items c.in-Some.step c.in_ok-leave-in-Leave.ensures.marks (omega (arith, w.inside.0, w.count)) (w.open_is k (inl refl))
+    c.in-Some.ensures.items c.in_ok-leave-in-Leave.ensures.steps
+
+pub steps-preserved-in-Continue-branch-2 : goal.steps-preserved-in-Continue-branch-2
+steps-preserved-in-Continue-branch-2 c =
+    let gates = c.gates-gates.result.now in
+    let roots = c.args.roots.now in
+    let ms = c.steps.walk.marks.items in
+    let k = c.in-Leave.k in
+    let rest : List Step = c.pop.new.self.items in
+    let done = c.steps.walk.done.items in
+    let now = taken c.steps.walk.steps.items rest c.in-Some.step (Leave k) c.in-Some.ensures.items c.in-Leave.is in
+    let w = subst (λ (s : List Step). IsWalk (reads gates roots) (length gates) (roots_in roots) (orders.order gates roots) ms s done) now c.steps.invariant.walk in
+    record {
+      walk = walk_same (reads gates roots) (length gates) (roots_in roots) (orders.order gates roots) (set ms k Done) c.leave.new.self.marks.items (reverse rest) (reverse c.leave.new.self.steps.items) (done ++ k ∷ []) c.leave.new.self.done.items
+          c.in_ok-leave-in-Leave.ensures.marks (ap reverse c.in_ok-leave-in-Leave.ensures.steps) c.in_ok-leave-in-Leave.ensures.done
+          (leave_step (reads gates roots) (length gates) (roots_in roots) (orders.order gates roots) ms k (reverse rest) done w);
     }
 
 pub steps-preserved-in-Done : goal.steps-preserved-in-Done
@@ -96,7 +124,7 @@ pub returns-clause-free : goal.returns-clause-free
 returns-clause-free c =
     let gates = c.gates-gates.result.now in
     let roots = c.args.roots.now in
-    let ends : c.steps.walk.steps.items ≡ [] = c.in-None.ensures.items in
+    let ends : c.steps.walk.steps.items ≡ [] = nil_from_length c.steps.walk.steps.items (omega (arith, c.in_default.ensures.cases.0)) in
     let w = subst (λ (s : List Step). IsWalk (reads gates roots) (length gates) (roots_in roots) (orders.order gates roots) c.steps.walk.marks.items (reverse s) c.steps.walk.done.items) ends c.steps.invariant.walk in
     subst (λ (gs : List Numbered). HasNoLoop gs roots) c.gates-gates.ensures.gates
     (λ ks h. ended_free (reads gates roots) (length gates) (roots_in roots) (orders.order gates roots) c.steps.walk.marks.items c.steps.walk.done.items w ks h.loop h.needed)
