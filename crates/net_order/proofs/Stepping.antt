@@ -280,7 +280,7 @@ module _ (R : ℕ → List ℕ) (n : ℕ) (roots whole : List ℕ) (ms : List Ma
       let new : HasLeave k s → ⊥ = λ h. let is = w.open_is k h in omega (arith, is, was) in
       let deep : n - leaves s ≡ suc (n - (leaves s + 1)) = omega (arith, set_one, was, w.room) in
       let unfolded : post R (n - leaves s) k ++ still R n s ≡ flat_map (post R (n - (leaves s + 1))) (R k) ++ (k ∷ still R n s)
-          = ap (λ (d : ℕ). post R d k ++ still R n s) deep ∙ append_assoc (flat_map (post R (n - (leaves s + 1))) (R k)) (k ∷ []) (still R n s) in
+      = ap (λ (d : ℕ). post R d k ++ still R n s) deep ∙ append_assoc (flat_map (post R (n - (leaves s + 1))) (R k)) (k ∷ []) (still R n s) in
       record {
         count = length-set ms k Open ∙ w.count;
         inside = inside_visits n (R k) t within w.inside;

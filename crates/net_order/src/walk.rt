@@ -131,12 +131,8 @@ impl Walk {
 
 /// The gates that the roots need, fan-ins first, left before right, each once; or a loop among them.
 ///
-/// It looks at each gate and each root once.
-pub fn order(
-    alloc: Global,
-    gates: &GateList,
-    roots: &[Option<u32>],
-) -> Result<Vec<u32>, OrderFault>
+/// It looks at each root once, and enters each gate at most once.
+pub fn order(alloc: Global, gates: &GateList, roots: &[Option<u32>]) -> Result<Vec<u32>, OrderFault>
     requires { AreInside (length gates.now) roots.now }
     ensures order { IfOk result (λ order. order.items ≡ orders.order gates.now roots.now) }
     ensures free { IfOk result (λ _. HasNoLoop gates.now roots.now) }

@@ -1,4 +1,4 @@
-use Rattle.std.proofs.Common.{◌≡◌, ◌∙◌, inl, refl, ap, sym, subst, map, reverse, set, replicate, length, arith, ◌<◌, ℕ, List, [], ◌++◌, ◌∷◌}
+use Rattle.std.proofs.Common.{◌≡◌, inl, refl, ap, sym, subst, map, reverse, set, replicate, length, arith, ◌<◌, List, [], ◌++◌, ◌∷◌}
 use Rattle.std.proofs.lemmas.List.{nil_from_length}
 use Rattle.net_view.specs.View.{Numbered}
 use Rattle.net_gates.specs.Gates.{IsGateList}
@@ -8,7 +8,7 @@ use Rattle.net_order.specs.declared.step.Mark.TheVariants.{New, Open, Done}
 use Rattle.net_order.specs.Order.{reads, roots_in, AreInside}
 use Rattle.net_order.specs.Order as orders
 use Rattle.net_order.specs.Loops.{IsNeededLoop, HasNoLoop}
-use Rattle.net_order.proofs.Stepping.{IsWalk, begun, taken, walk_same, mark_read, leave_step, skip_step, enter_step, less_leave, less_enter, ended, ended_free, chain_needed}
+use Rattle.net_order.proofs.Stepping.{IsWalk, begun, taken, walk_same, mark_read, leave_step, skip_step, enter_step, less_leave, less_enter, ended_free}
 use Rattle.net_order.proofs.Reading.{roots_inside, reads_inside, reads_few}
 use Rattle.net_order.proofs.walk.order.Goals as goal
 
