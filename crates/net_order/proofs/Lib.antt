@@ -1,3 +1,4 @@
 pub mod Firsts
 pub mod Stepping
 pub mod Reading
+pub mod Rows
