@@ -13,3 +13,6 @@ mod walk;
 
 pub use fault::OrderFault;
 pub use walk::order;
+
+#[cfg(test)]
+mod tests;
