@@ -1,8 +1,11 @@
 -- What a process body without loops is worth (IEEE 1364-2005, clause 9, over ternary values).
---     run d reads bits s r             what a statement makes of r, in a process that assigns `bits`
---     worth d reads bits s state       what these bits become from a state
+--     run d reads bits s r       what a statement makes of r, in a process that assigns `bits` and whose later reads see what is
+--                                assigned to `reads`
+--     worth d reads bits s state       what `bits` become from a state
 -- `if` and `case` run all their sides from one state, and select each bit that the process assigns, also one that no side
 -- touches. A blocking assignment is seen by later reads, a nonblocking one isn't.
+-- For a process without edges a caller gives reads = bits. For one with edges, whose reads are of old values, it gives as `reads`
+-- the bits of the variables of its loops, and none where nothing reads one behind its loop.
 use Rattle.std.specs.Prelude.{ℕ, List, [], ◌∷◌, Option, None, Some}
 use Rattle.vlog_tree.specs.declared.expr.Expr.{Expr}
 use Rattle.vlog_tree.specs.declared.stmt.Arm.{Arm}
@@ -27,7 +30,7 @@ use Rattle.proc_values.specs.Cases.{Step, standing, case_run}
 
 -- ---- assignments
 
--- a write, which later reads see if it is blocking
+-- a write, which later reads see if it is blocking, and at `reads` alone
 unfoldable pub written : List ℕ → List ℕ → Assigns → List Stroke → Step
 written reads bits Blocking ks r = record { now = struck reads ks r.now; next = struck bits ks r.next }
 written reads bits Nonblocking ks r = record { now = r.now; next = struck bits ks r.next }
@@ -76,6 +79,6 @@ run_by_parts d reads bits (Stmt-F.For place h body) r = body r
 unfoldable pub run : Parts → List ℕ → List ℕ → Stmt → Step
 run d reads bits = fold-Stmt Step (run_by_parts d reads bits)
 
--- what these bits become from a state
+-- what the bits that the process assigns become from a state
 abbrev pub worth : Parts → List ℕ → List ℕ → Stmt → List Tern → List Tern
 worth d reads bits s state = values_of (run d reads bits s (record { now = state; next = state })).next bits

@@ -314,6 +314,8 @@ fn run_case(
 }
 
 /// What the bits become of a state: what the body of the process that assigns them makes of it, in the order of the bits.
+/// Later reads see what is assigned to `reads`: `bits` again for a process without edges; for one with edges the bits of the
+/// variables of its loops, or none where nothing reads one behind its loop.
 /// A body has no loops; one would be its body, run once.
 ///
 /// # Errors
