@@ -57,14 +57,36 @@ fn run(
     match s {
         Stmt::Empty(_) => Ok(()),
         Stmt::Block(_, _, inner) => {
-            run_all(alloc, design, reads, bits, read_marks, marks, inner.as_slice(), now, next)
+            run_all(
+                alloc,
+                design,
+                reads,
+                bits,
+                read_marks,
+                marks,
+                inner.as_slice(),
+                now,
+                next,
+            )
         }
         Stmt::Assign(_, target, by, value) => {
-            assign(alloc, design, reads, bits, read_marks, marks, target, *by, value, now, next)
+            assign(
+                alloc, design, reads, bits, read_marks, marks, target, *by, value, now, next,
+            )
         }
         Stmt::If(_, test, first, other) => {
             let hit = tested(alloc, design, test, now)?;
-            let first = tried(alloc, design, reads, bits, read_marks, marks, first.get(), now, next)?;
+            let first = tried(
+                alloc,
+                design,
+                reads,
+                bits,
+                read_marks,
+                marks,
+                first.get(),
+                now,
+                next,
+            )?;
             match other {
                 None => keep(alloc, reads, bits, hit, &first, now, next),
                 Some(other) => {
@@ -88,9 +110,21 @@ fn run(
             let arms = arms.as_slice();
             let at = standing(is_full(alloc, design, *how, selector, arms)?, arms);
             let choice = choice_of(alloc, design, *how, selector, arms, now)?;
-            run_case(alloc, design, reads, bits, read_marks, marks, &choice, at, arms, now, next)
+            run_case(
+                alloc, design, reads, bits, read_marks, marks, &choice, at, arms, now, next,
+            )
         }
-        Stmt::For(_, _, body) => run(alloc, design, reads, bits, read_marks, marks, body.get(), now, next),
+        Stmt::For(_, _, body) => run(
+            alloc,
+            design,
+            reads,
+            bits,
+            read_marks,
+            marks,
+            body.get(),
+            now,
+            next,
+        ),
     }
 }
 
@@ -111,7 +145,9 @@ fn run_all(
     ensures { OnOk result (Runs reads.now bits.now (in_order (map (run design.now reads.now bits.now) ss.now)) now.old next.old now.new next.new) }
 {
     for i in 0..ss.len() {
-        match run(alloc, design, reads, bits, read_marks, marks, &ss[i], now, next) {
+        match run(
+            alloc, design, reads, bits, read_marks, marks, &ss[i], now, next,
+        ) {
             Ok(()) => {}
             Err(fault) => return Err(fault),
         }
@@ -168,7 +204,9 @@ fn choose(
     ensures { (one : Run) → IsSide reads.now bits.now (record { now = now.old; next = next.old }) one first.now.seen.items first.now.becomes.items
         → OnOk result (Runs reads.now bits.now (λ r. chosen reads.now bits.now select one (run design.now reads.now bits.now other.now r)) now.old next.old now.new next.new) }
 {
-    let second = match tried(alloc, design, reads, bits, read_marks, marks, other, now, next) {
+    let second = match tried(
+        alloc, design, reads, bits, read_marks, marks, other, now, next,
+    ) {
         Ok(side) => side,
         Err(fault) => return Err(fault),
     };
@@ -201,7 +239,17 @@ fn tried_standing(
             if arms.len() <= i {
                 return side_of(alloc, reads, bits, now, next);
             }
-            tried(alloc, design, reads, bits, read_marks, marks, arms[i].body.get(), now, next)
+            tried(
+                alloc,
+                design,
+                reads,
+                bits,
+                read_marks,
+                marks,
+                arms[i].body.get(),
+                now,
+                next,
+            )
         }
     }
 }
@@ -235,7 +283,9 @@ fn tried_item(
 {
     let Choice { how, context, word } = choice;
     let hit = any_hit(alloc, design, now, *how, *context, word.as_slice(), labels)?;
-    let side = match tried(alloc, design, reads, bits, read_marks, marks, body, now, next) {
+    let side = match tried(
+        alloc, design, reads, bits, read_marks, marks, body, now, next,
+    ) {
         Ok(side) => side,
         Err(fault) => return Err(fault),
     };
@@ -265,7 +315,9 @@ fn tried_items(
         (case_run reads.now bits.now (any_hit design.now now.old choice.now.how (shape_of choice.now.context) choice.now.word.items) at (map (with_body (run design.now reads.now bits.now)) arms.now) (record { now = now.old; next = next.old }))
         out.seen.items out.becomes.items) }
 {
-    let mut side = match tried_standing(alloc, design, reads, bits, read_marks, marks, at, arms, now, next) {
+    let mut side = match tried_standing(
+        alloc, design, reads, bits, read_marks, marks, at, arms, now, next,
+    ) {
         Ok(side) => side,
         Err(fault) => return Err(fault),
     };
@@ -276,7 +328,8 @@ fn tried_items(
         let body = arms[left].body.get();
         if !is_at(at, left) {
             side = match tried_item(
-                alloc, design, reads, bits, read_marks, marks, choice, body, labels, &side, now, next,
+                alloc, design, reads, bits, read_marks, marks, choice, body, labels, &side, now,
+                next,
             ) {
                 Ok(side) => side,
                 Err(fault) => return Err(fault),
@@ -305,7 +358,9 @@ fn run_case(
     requires covers { CoversAll design.now (shape_of choice.now.context) (labels_of arms.now) }
     ensures { OnOk result (Runs reads.now bits.now (λ r. case_run reads.now bits.now (any_hit design.now r.now choice.now.how (shape_of choice.now.context) choice.now.word.items) at (map (with_body (run design.now reads.now bits.now)) arms.now) r) now.old next.old now.new next.new) }
 {
-    let side = match tried_items(alloc, design, reads, bits, read_marks, marks, choice, at, arms, now, next) {
+    let side = match tried_items(
+        alloc, design, reads, bits, read_marks, marks, choice, at, arms, now, next,
+    ) {
         Ok(side) => side,
         Err(fault) => return Err(fault),
     };

@@ -36,7 +36,13 @@ pub(crate) fn side_of(
 }
 
 /// The bits get these values.
-pub(crate) fn put_side(reads: &[u32], bits: &[u32], side: &Side, now: &mut [Tern], next: &mut [Tern])
+pub(crate) fn put_side(
+    reads: &[u32],
+    bits: &[u32],
+    side: &Side,
+    now: &mut [Tern],
+    next: &mut [Tern],
+)
     requires now { length side.now.seen.items ≡ length reads.now }
     requires next { length side.now.becomes.items ≡ length bits.now }
     ensures now { now.new ≡ scattered reads.now side.now.seen.items now.old }

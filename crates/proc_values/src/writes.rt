@@ -69,6 +69,15 @@ pub(crate) fn assign(
     ensures { OnOk result (Runs reads.now bits.now (assign design.now reads.now bits.now target.now by value.now) now.old next.old now.new next.new) }
 {
     let strokes = strokes_of(alloc, design, target, value, now)?;
-    write(reads, bits, read_marks, marks, strokes.as_slice(), by, now, next);
+    write(
+        reads,
+        bits,
+        read_marks,
+        marks,
+        strokes.as_slice(),
+        by,
+        now,
+        next,
+    );
     Ok(())
 }
