@@ -160,12 +160,12 @@ mixed_moves bits c r ys ns moves = record {
 }
 
 -- two sides, mixed
-pub chosen_side : (bits : List ℕ) (r yes_out no_out : Run) (c : Tern) (a b x y now next : List Tern) → IsSide bits r yes_out a b → IsSide bits r no_out x y → now ≡ select_of c a x → next ≡ select_of c b y
-    → IsSide bits r (chosen bits c yes_out no_out) now next
-chosen_side bits r one other c a b x y now next first second now-is next-is = record {
-  now_is = now-is ∙ (λ k. select_of c (first.now_is k) (second.now_is k)) ∙ mixed_values bits c one.now other.now (first.now_moves.long ∙ sym second.now_moves.long);
+pub chosen_side : (reads bits : List ℕ) (r yes_out no_out : Run) (c : Tern) (a b x y now next : List Tern) → IsSide reads bits r yes_out a b → IsSide reads bits r no_out x y → now ≡ select_of c a x → next ≡ select_of c b y
+    → IsSide reads bits r (chosen reads bits c yes_out no_out) now next
+chosen_side reads bits r one other c a b x y now next first second now-is next-is = record {
+  now_is = now-is ∙ (λ k. select_of c (first.now_is k) (second.now_is k)) ∙ mixed_values reads c one.now other.now (first.now_moves.long ∙ sym second.now_moves.long);
   next_is = next-is ∙ (λ k. select_of c (first.next_is k) (second.next_is k)) ∙ mixed_values bits c one.next other.next (first.next_moves.long ∙ sym second.next_moves.long);
-  now_moves = mixed_moves bits c r.now one.now other.now second.now_moves;
+  now_moves = mixed_moves reads c r.now one.now other.now second.now_moves;
   next_moves = mixed_moves bits c r.next one.next other.next second.next_moves;
 }
 

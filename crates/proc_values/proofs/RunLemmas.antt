@@ -23,41 +23,41 @@ long_select c (a ∷ x) [] n h k = absurd (omega (arith, h, k))
 long_select c (a ∷ x) (b ∷ y) n h k = ap suc (long_select c x y (length x) refl (omega (arith, h, k))) ∙ h
 
 -- a side that is put over what was there
-pub side_runs : (bits : List ℕ) (out : Run) (now next seen becomes now' next' : List Tern) → IsSide bits (record { now = now; next = next }) out seen becomes → now' ≡ scattered bits seen now → next' ≡ scattered bits becomes next
-    → Runs bits (λ _. out) now next now' next'
-side_runs bits out now next seen becomes now' next' side now-is next-is =
-    let first : now' ≡ out.now = now-is ∙ ap (λ (v : List Tern). scattered bits v now) side.now_is ∙ placed bits now out.now side.now_moves in
+pub side_runs : (reads bits : List ℕ) (out : Run) (now next seen becomes now' next' : List Tern) → IsSide reads bits (record { now = now; next = next }) out seen becomes → now' ≡ scattered reads seen now → next' ≡ scattered bits becomes next
+    → Runs reads bits (λ _. out) now next now' next'
+side_runs reads bits out now next seen becomes now' next' side now-is next-is =
+    let first : now' ≡ out.now = now-is ∙ ap (λ (v : List Tern). scattered reads v now) side.now_is ∙ placed reads now out.now side.now_moves in
     let second : next' ≡ out.next = next-is ∙ ap (λ (v : List Tern). scattered bits v next) side.next_is ∙ placed bits next out.next side.next_moves in
     record {
       same = (λ k. record { now = first k; next = second k });
-      now_moves = subst (Moves bits now) (sym first) side.now_moves;
+      now_moves = subst (Moves reads now) (sym first) side.now_moves;
       next_moves = subst (Moves bits next) (sym second) side.next_moves;
     }
 
-pub runs_as : (bits : List ℕ) (f g : Step) (now next now' next' : List Tern) → f (record { now = now; next = next }) ≡ g (record { now = now; next = next }) → Runs bits f now next now' next' → Runs bits g now next now' next'
-runs_as bits f g now next now' next' is runs = record { same = runs.same ∙ is; now_moves = runs.now_moves; next_moves = runs.next_moves }
+pub runs_as : (reads bits : List ℕ) (f g : Step) (now next now' next' : List Tern) → f (record { now = now; next = next }) ≡ g (record { now = now; next = next }) → Runs reads bits f now next now' next' → Runs reads bits g now next now' next'
+runs_as reads bits f g now next now' next' is runs = record { same = runs.same ∙ is; now_moves = runs.now_moves; next_moves = runs.next_moves }
 
-pub ok_as : {A E : Type 0} (bits : List ℕ) (f g : Step) (now next now' next' : List Tern) (r : Result A E) → f (record { now = now; next = next }) ≡ g (record { now = now; next = next }) → OnOk r (Runs bits f now next now' next')
-    → OnOk r (Runs bits g now next now' next')
-ok_as bits f g now next now' next' (Ok a) is runs = runs_as bits f g now next now' next' is runs
-ok_as bits f g now next now' next' (Err e) is runs = tt
+pub ok_as : {A E : Type 0} (reads bits : List ℕ) (f g : Step) (now next now' next' : List Tern) (r : Result A E) → f (record { now = now; next = next }) ≡ g (record { now = now; next = next }) → OnOk r (Runs reads bits f now next now' next')
+    → OnOk r (Runs reads bits g now next now' next')
+ok_as reads bits f g now next now' next' (Ok a) is runs = runs_as reads bits f g now next now' next' is runs
+ok_as reads bits f g now next now' next' (Err e) is runs = tt
 
 -- the bits as they are
-pub side_here : (bits : List ℕ) (now next seen becomes : List Tern) → seen ≡ values_of now bits → becomes ≡ values_of next bits → IsSide bits (record { now = now; next = next }) (record { now = now; next = next }) seen becomes
-side_here bits now next seen becomes s b = record { now_is = s; next_is = b; now_moves = moves_not bits now; next_moves = moves_not bits next }
+pub side_here : (reads bits : List ℕ) (now next seen becomes : List Tern) → seen ≡ values_of now reads → becomes ≡ values_of next bits → IsSide reads bits (record { now = now; next = next }) (record { now = now; next = next }) seen becomes
+side_here reads bits now next seen becomes s b = record { now_is = s; next_is = b; now_moves = moves_not reads now; next_moves = moves_not bits next }
 
 -- what a step left
-pub side_left : (bits : List ℕ) (f : Step) (now next now' next' seen becomes : List Tern) → Runs bits f now next now' next' → seen ≡ values_of now' bits → becomes ≡ values_of next' bits
-    → IsSide bits (record { now = now; next = next }) (f (record { now = now; next = next })) seen becomes
-side_left bits f now next now' next' seen becomes runs s b = record {
-  now_is = s ∙ ap (λ (r : Run). values_of r.now bits) runs.same;
+pub side_left : (reads bits : List ℕ) (f : Step) (now next now' next' seen becomes : List Tern) → Runs reads bits f now next now' next' → seen ≡ values_of now' reads → becomes ≡ values_of next' bits
+    → IsSide reads bits (record { now = now; next = next }) (f (record { now = now; next = next })) seen becomes
+side_left reads bits f now next now' next' seen becomes runs s b = record {
+  now_is = s ∙ ap (λ (r : Run). values_of r.now reads) runs.same;
   next_is = b ∙ ap (λ (r : Run). values_of r.next bits) runs.same;
-  now_moves = subst (λ (r : Run). Moves bits now r.now) runs.same runs.now_moves;
+  now_moves = subst (λ (r : Run). Moves reads now r.now) runs.same runs.now_moves;
   next_moves = subst (λ (r : Run). Moves bits next r.next) runs.same runs.next_moves;
 }
 
-pub ready_on : (bits : List ℕ) (marks : List Bool) (now next now' next' : List Tern) → IsReady bits marks now next → length now' ≡ length now → length next' ≡ length next → IsReady bits marks now' next'
-ready_on bits marks now next now' next' ready n m = record { marks_are = ready.marks_are; now_long = n ∙ ready.now_long; next_long = m ∙ ready.next_long }
+pub ready_on : (reads bits : List ℕ) (read_marks marks : List Bool) (now next now' next' : List Tern) → IsReady reads bits read_marks marks now next → length now' ≡ length now → length next' ≡ length next → IsReady reads bits read_marks marks now' next'
+ready_on reads bits read_marks marks now next now' next' ready n m = record { reads_are = ready.reads_are; marks_are = ready.marks_are; now_long = n ∙ ready.now_long; next_long = m ∙ ready.next_long }
 
 -- ---- statements in order
 
@@ -90,8 +90,8 @@ default_none {S} arms i whole past left = ap (default_from i) (sym (drop_all i a
 
 -- ---- sides that are mixed
 
-pub ok_sides : {E : Type 0} (bits : List ℕ) (r one other : Run) (c hit : Tern) (a b x y : List Tern) (q : Result Side E) → IsSide bits r one a b → IsSide bits r other x y → c ≡ hit
-    → IfOk q (λ side. side.seen.items ≡ select_of c a x) → IfOk q (λ side. side.becomes.items ≡ select_of c b y) → IfOk q (λ side. IsSide bits r (chosen bits hit one other) side.seen.items side.becomes.items)
-ok_sides bits r one other c hit a b x y (Ok side) first second is now next =
-    subst (λ (h : Tern). IsSide bits r (chosen bits h one other) side.seen.items side.becomes.items) is (chosen_side bits r one other c a b x y _ _ first second now next)
-ok_sides bits r one other c hit a b x y (Err e) first second is now next = tt
+pub ok_sides : {E : Type 0} (reads bits : List ℕ) (r one other : Run) (c hit : Tern) (a b x y : List Tern) (q : Result Side E) → IsSide reads bits r one a b → IsSide reads bits r other x y → c ≡ hit
+    → IfOk q (λ side. side.seen.items ≡ select_of c a x) → IfOk q (λ side. side.becomes.items ≡ select_of c b y) → IfOk q (λ side. IsSide reads bits r (chosen reads bits hit one other) side.seen.items side.becomes.items)
+ok_sides reads bits r one other c hit a b x y (Ok side) first second is now next =
+    subst (λ (h : Tern). IsSide reads bits r (chosen reads bits h one other) side.seen.items side.becomes.items) is (chosen_side reads bits r one other c a b x y _ _ first second now next)
+ok_sides reads bits r one other c hit a b x y (Err e) first second is now next = tt

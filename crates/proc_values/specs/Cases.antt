@@ -2,8 +2,8 @@
 --     Step                       what a statement does
 --     standing full arms         the number of the item that stands for the default: the one without labels, or else the last one,
 --                                where the case is full. Its match is not used
---     chain bits hit at i arms other       the items from number i on, as a chain of choices; in the end `other`
---     case_run bits hit full arms          all of them
+--     chain reads bits hit at i arms other       the items from number i on, as a chain of choices; in the end `other`
+--     case_run reads bits hit full arms          all of them
 use Rattle.std.specs.Prelude.{ℕ, ◌+◌, ◌-◌, Bool, true, false, ◌==◌, if◌then◌else◌, List, [], ◌∷◌, length, slice_get, Option, Some, None}
 use Rattle.vlog_tree.specs.declared.expr.Expr.{Expr}
 use Rattle.vlog_tree.specs.declared.stmt.Arm.{Arm}
@@ -32,11 +32,11 @@ is_at None i = false
 is_at (Some k) i = k == i
 
 -- the items from number i on, as a chain of choices that all start from one state
-unfoldable pub chain : List ℕ → (List Expr → Tern) → Option ℕ → ℕ → List (Arm Step) → Step → Step
-chain bits hit at i [] other r = other r
-chain bits hit at i (arm ∷ arms) other r =
-    if is_at at i then chain bits hit at (i + 1) arms other r
-    else chosen bits (hit arm.labels) (arm.body r) (chain bits hit at (i + 1) arms other r)
+unfoldable pub chain : List ℕ → List ℕ → (List Expr → Tern) → Option ℕ → ℕ → List (Arm Step) → Step → Step
+chain reads bits hit at i [] other r = other r
+chain reads bits hit at i (arm ∷ arms) other r =
+    if is_at at i then chain reads bits hit at (i + 1) arms other r
+    else chosen reads bits (hit arm.labels) (arm.body r) (chain reads bits hit at (i + 1) arms other r)
 
 unfoldable pub body_in : Option (Arm Step) → Step
 body_in None r = r
@@ -47,8 +47,8 @@ unfoldable pub body_at : Option ℕ → List (Arm Step) → Step
 body_at None arms r = r
 body_at (Some i) arms r = body_in (slice_get arms i) r
 
-abbrev pub case_run : List ℕ → (List Expr → Tern) → Option ℕ → List (Arm Step) → Step
-case_run bits hit at arms = chain bits hit at 0 arms (body_at at arms)
+abbrev pub case_run : List ℕ → List ℕ → (List Expr → Tern) → Option ℕ → List (Arm Step) → Step
+case_run reads bits hit at arms = chain reads bits hit at 0 arms (body_at at arms)
 
 -- an item in which a part is what another one gives
 abbrev pub with_body : {S T : Type 0} → (S → T) → Arm S → Arm T

@@ -9,4 +9,4 @@ use Rattle.proc_values.specs.Bodies.{worth}
 
 -- a state that tells less gives bits that tell no more
 abbrev pub RaisesBodies : Type 0
-RaisesBodies = (d : Parts) (bits : List ℕ) (s : Stmt) (a b : List Tern) → AreBelow a b → AreBelow (worth d bits s a) (worth d bits s b)
+RaisesBodies = (d : Parts) (reads bits : List ℕ) (s : Stmt) (a b : List Tern) → AreBelow a b → AreBelow (worth d reads bits s a) (worth d reads bits s b)

@@ -3,7 +3,7 @@
 --     AreMarks bits marks            a flag for each bit: whether it is one of these
 --     StaysOutside bits a b          other bits are the same
 --     scattered bits vs s            values put back at bits, the last one last
---     IsSide bits r out now next     what a side leaves at these bits, from r
+--     IsSide reads bits r out now next     what a side leaves at these bits, from r: what reads see, and what bits become
 use Rattle.std.specs.Prelude.{◌≡◌, ℕ, ◌<◌, Bool, true, false, List, [], ◌∷◌, length, get_or, slice_set}
 use Rattle.rdc_tern.specs.declared.value.Tern.{Tern}
 use Rattle.rdc_tern.specs.declared.value.Tern.TheVariants.{One}
@@ -32,20 +32,21 @@ pub record Moves (bits : List ℕ) (a b : List Tern) : Type 0 where
   pub outside : StaysOutside bits a b
 
 -- what a side leaves at these bits, from r
-pub record IsSide (bits : List ℕ) (r out : Run) (now next : List Tern) : Type 0 where
-  pub now_is : now ≡ values_of out.now bits
+pub record IsSide (reads bits : List ℕ) (r out : Run) (now next : List Tern) : Type 0 where
+  pub now_is : now ≡ values_of out.now reads
   pub next_is : next ≡ values_of out.next bits
-  pub now_moves : Moves bits r.now out.now
+  pub now_moves : Moves reads r.now out.now
   pub next_moves : Moves bits r.next out.next
 
 -- flags and states fit
-pub record IsReady (bits : List ℕ) (marks : List Bool) (now next : List Tern) : Type 0 where
+pub record IsReady (reads bits : List ℕ) (read_marks marks : List Bool) (now next : List Tern) : Type 0 where
+  pub reads_are : AreMarks reads read_marks
   pub marks_are : AreMarks bits marks
-  pub now_long : length now ≡ length marks
+  pub now_long : length now ≡ length read_marks
   pub next_long : length next ≡ length marks
 
 -- the states became what a step makes of them, at these bits alone
-pub record Runs (bits : List ℕ) (f : Run → Run) (now next now' next' : List Tern) : Type 0 where
+pub record Runs (reads bits : List ℕ) (f : Run → Run) (now next now' next' : List Tern) : Type 0 where
   pub same : record { now = now'; next = next' } ≡ f (record { now = now; next = next })
-  pub now_moves : Moves bits now now'
+  pub now_moves : Moves reads now now'
   pub next_moves : Moves bits next next'

@@ -4,7 +4,7 @@
 --     put bits s n v               a bit of these gets another value; a bit of none of them keeps its own
 --     struck bits ks s             strokes, one after the other: each bit becomes mux(hit, value, what it is)
 --     mixed bits c ys ns           each of these bits becomes mux(c, y, n); others are as in ns
---     chosen bits c one other      the same of both
+--     chosen reads bits c one other      the same of both: of what reads see at `reads`, of what bits become at `bits`
 --     values_of s bits             the values of bits
 use Rattle.std.specs.Prelude.{ℕ, ◌+◌, Bool, ◌==◌, if◌then◌else◌, List, [], ◌∷◌, map, slice_set}
 use Rattle.std.specs.List.{list_any}
@@ -39,8 +39,8 @@ mixed_from bits c k (y ∷ ys) (n ∷ ns) = (if is_among bits k then mux_of c y 
 abbrev pub mixed : List ℕ → Tern → List Tern → List Tern → List Tern
 mixed bits c ys ns = mixed_from bits c 0 ys ns
 
-abbrev pub chosen : List ℕ → Tern → Run → Run → Run
-chosen bits c one other = record { now = mixed bits c one.now other.now; next = mixed bits c one.next other.next }
+abbrev pub chosen : List ℕ → List ℕ → Tern → Run → Run → Run
+chosen reads bits c one other = record { now = mixed reads c one.now other.now; next = mixed bits c one.next other.next }
 
 -- the values of bits
 abbrev pub values_of : List Tern → List ℕ → List Tern

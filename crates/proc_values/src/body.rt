@@ -17,7 +17,7 @@ ghost use Rattle.proc_values.specs.Marks.{IsReady, IsSide, Runs};
 use crate::cases::{Choice, choice_of, is_at, labels_at, standing};
 use crate::changes::{gathered, marked};
 use crate::labels::any_hit;
-use crate::sides::{Side, mixed_sides, put_side, side_of};
+use crate::sides::{Side, keep, mixed_sides, put_side, settle, side_of};
 use crate::writes::assign;
 use design_form::{Design, EvalFault, eval};
 use proc_cases::is_full;
@@ -25,47 +25,6 @@ use rdc_tern::{Tern, any};
 use sqlite_items::Boxed;
 use std::alloc::Global;
 use vlog_tree::{Arm, Expr, Matching, Stmt};
-
-/// The bits get what two sides leave of them.
-fn settle(
-    alloc: Global,
-    bits: &[u32],
-    select: Tern,
-    first: &Side,
-    second: &Side,
-    now: &mut [Tern],
-    next: &mut [Tern],
-) -> Result<(), EvalFault>
-    requires first_seen { length first.now.seen.items ≡ length bits.now }
-    requires first_becomes { length first.now.becomes.items ≡ length bits.now }
-    requires second_seen { length second.now.seen.items ≡ length bits.now }
-    requires second_becomes { length second.now.becomes.items ≡ length bits.now }
-    ensures { (one other : Run) → IsSide bits.now (record { now = now.old; next = next.old }) one first.now.seen.items first.now.becomes.items
-        → IsSide bits.now (record { now = now.old; next = next.old }) other second.now.seen.items second.now.becomes.items
-        → OnOk result (Runs bits.now (λ _. chosen bits.now select one other) now.old next.old now.new next.new) }
-{
-    let mixed = mixed_sides(alloc, select, first, second)?;
-    put_side(bits, &mixed, now, next);
-    Ok(())
-}
-
-/// The bits get what one side leaves of them, or stay.
-fn keep(
-    alloc: Global,
-    bits: &[u32],
-    select: Tern,
-    first: &Side,
-    now: &mut [Tern],
-    next: &mut [Tern],
-) -> Result<(), EvalFault>
-    requires first_seen { length first.now.seen.items ≡ length bits.now }
-    requires first_becomes { length first.now.becomes.items ≡ length bits.now }
-    ensures { (one : Run) → IsSide bits.now (record { now = now.old; next = next.old }) one first.now.seen.items first.now.becomes.items
-        → OnOk result (Runs bits.now (λ r. chosen bits.now select one r) now.old next.old now.new next.new) }
-{
-    let second = side_of(alloc, bits, now, next)?;
-    settle(alloc, bits, select, first, &second, now, next)
-}
 
 /// Whether the test of an `if` holds.
 fn tested(alloc: Global, design: &Design, test: &Expr, now: &[Tern]) -> Result<Tern, EvalFault>
@@ -84,33 +43,59 @@ fn tested(alloc: Global, design: &Design, test: &Expr, now: &[Tern]) -> Result<T
 fn run(
     alloc: Global,
     design: &Design,
+    reads: &[u32],
     bits: &[u32],
+    read_marks: &[bool],
     marks: &[bool],
     s: &Stmt,
     now: &mut [Tern],
     next: &mut [Tern],
 ) -> Result<(), EvalFault>
-    requires { IsReady bits.now marks.now now.old next.old }
-    ensures { OnOk result (Runs bits.now (run design.now bits.now s.now) now.old next.old now.new next.new) }
+    requires { IsReady reads.now bits.now read_marks.now marks.now now.old next.old }
+    ensures { OnOk result (Runs reads.now bits.now (run design.now reads.now bits.now s.now) now.old next.old now.new next.new) }
 {
     match s {
         Stmt::Empty(_) => Ok(()),
         Stmt::Block(_, _, inner) => {
-            run_all(alloc, design, bits, marks, inner.as_slice(), now, next)
+            run_all(
+                alloc,
+                design,
+                reads,
+                bits,
+                read_marks,
+                marks,
+                inner.as_slice(),
+                now,
+                next,
+            )
         }
         Stmt::Assign(_, target, by, value) => {
-            assign(alloc, design, bits, marks, target, *by, value, now, next)
+            assign(
+                alloc, design, reads, bits, read_marks, marks, target, *by, value, now, next,
+            )
         }
         Stmt::If(_, test, first, other) => {
             let hit = tested(alloc, design, test, now)?;
-            let first = tried(alloc, design, bits, marks, first.get(), now, next)?;
+            let first = tried(
+                alloc,
+                design,
+                reads,
+                bits,
+                read_marks,
+                marks,
+                first.get(),
+                now,
+                next,
+            )?;
             match other {
-                None => keep(alloc, bits, hit, &first, now, next),
+                None => keep(alloc, reads, bits, hit, &first, now, next),
                 Some(other) => {
                     choose(
                         alloc,
                         design,
+                        reads,
                         bits,
+                        read_marks,
                         marks,
                         hit,
                         &first,
@@ -125,9 +110,21 @@ fn run(
             let arms = arms.as_slice();
             let at = standing(is_full(alloc, design, *how, selector, arms)?, arms);
             let choice = choice_of(alloc, design, *how, selector, arms, now)?;
-            run_case(alloc, design, bits, marks, &choice, at, arms, now, next)
+            run_case(
+                alloc, design, reads, bits, read_marks, marks, &choice, at, arms, now, next,
+            )
         }
-        Stmt::For(_, _, body) => run(alloc, design, bits, marks, body.get(), now, next),
+        Stmt::For(_, _, body) => run(
+            alloc,
+            design,
+            reads,
+            bits,
+            read_marks,
+            marks,
+            body.get(),
+            now,
+            next,
+        ),
     }
 }
 
@@ -136,17 +133,21 @@ fn run(
 fn run_all(
     alloc: Global,
     design: &Design,
+    reads: &[u32],
     bits: &[u32],
+    read_marks: &[bool],
     marks: &[bool],
     ss: &[Stmt],
     now: &mut [Tern],
     next: &mut [Tern],
 ) -> Result<(), EvalFault>
-    requires { IsReady bits.now marks.now now.old next.old }
-    ensures { OnOk result (Runs bits.now (in_order (map (run design.now bits.now) ss.now)) now.old next.old now.new next.new) }
+    requires { IsReady reads.now bits.now read_marks.now marks.now now.old next.old }
+    ensures { OnOk result (Runs reads.now bits.now (in_order (map (run design.now reads.now bits.now) ss.now)) now.old next.old now.new next.new) }
 {
     for i in 0..ss.len() {
-        match run(alloc, design, bits, marks, &ss[i], now, next) {
+        match run(
+            alloc, design, reads, bits, read_marks, marks, &ss[i], now, next,
+        ) {
             Ok(()) => {}
             Err(fault) => return Err(fault),
         }
@@ -159,24 +160,26 @@ fn run_all(
 fn tried(
     alloc: Global,
     design: &Design,
+    reads: &[u32],
     bits: &[u32],
+    read_marks: &[bool],
     marks: &[bool],
     s: &Stmt,
     now: &mut [Tern],
     next: &mut [Tern],
 ) -> Result<Side, EvalFault>
-    requires { IsReady bits.now marks.now now.old next.old }
+    requires { IsReady reads.now bits.now read_marks.now marks.now now.old next.old }
     ensures now { OnOk result (now.new ≡ now.old) }
     ensures next { OnOk result (next.new ≡ next.old) }
-    ensures side { IfOk result (λ out. IsSide bits.now (record { now = now.old; next = next.old }) (run design.now bits.now s.now (record { now = now.old; next = next.old })) out.seen.items out.becomes.items) }
+    ensures side { IfOk result (λ out. IsSide reads.now bits.now (record { now = now.old; next = next.old }) (run design.now reads.now bits.now s.now (record { now = now.old; next = next.old })) out.seen.items out.becomes.items) }
 {
-    let before = side_of(alloc, bits, now, next)?;
-    match run(alloc, design, bits, marks, s, now, next) {
+    let before = side_of(alloc, reads, bits, now, next)?;
+    match run(alloc, design, reads, bits, read_marks, marks, s, now, next) {
         Ok(()) => {}
         Err(fault) => return Err(fault),
     }
-    let after = side_of(alloc, bits, now, next)?;
-    put_side(bits, &before, now, next);
+    let after = side_of(alloc, reads, bits, now, next)?;
+    put_side(reads, bits, &before, now, next);
     Ok(after)
 }
 
@@ -185,7 +188,9 @@ fn tried(
 fn choose(
     alloc: Global,
     design: &Design,
+    reads: &[u32],
     bits: &[u32],
+    read_marks: &[bool],
     marks: &[bool],
     select: Tern,
     first: &Side,
@@ -193,17 +198,19 @@ fn choose(
     now: &mut [Tern],
     next: &mut [Tern],
 ) -> Result<(), EvalFault>
-    requires ready { IsReady bits.now marks.now now.old next.old }
-    requires first_seen { length first.now.seen.items ≡ length bits.now }
+    requires ready { IsReady reads.now bits.now read_marks.now marks.now now.old next.old }
+    requires first_seen { length first.now.seen.items ≡ length reads.now }
     requires first_becomes { length first.now.becomes.items ≡ length bits.now }
-    ensures { (one : Run) → IsSide bits.now (record { now = now.old; next = next.old }) one first.now.seen.items first.now.becomes.items
-        → OnOk result (Runs bits.now (λ r. chosen bits.now select one (run design.now bits.now other.now r)) now.old next.old now.new next.new) }
+    ensures { (one : Run) → IsSide reads.now bits.now (record { now = now.old; next = next.old }) one first.now.seen.items first.now.becomes.items
+        → OnOk result (Runs reads.now bits.now (λ r. chosen reads.now bits.now select one (run design.now reads.now bits.now other.now r)) now.old next.old now.new next.new) }
 {
-    let second = match tried(alloc, design, bits, marks, other, now, next) {
+    let second = match tried(
+        alloc, design, reads, bits, read_marks, marks, other, now, next,
+    ) {
         Ok(side) => side,
         Err(fault) => return Err(fault),
     };
-    settle(alloc, bits, select, first, &second, now, next)
+    settle(alloc, reads, bits, select, first, &second, now, next)
 }
 
 /// What the item that stands for the default leaves. The states are as they were.
@@ -212,25 +219,37 @@ fn choose(
 fn tried_standing(
     alloc: Global,
     design: &Design,
+    reads: &[u32],
     bits: &[u32],
+    read_marks: &[bool],
     marks: &[bool],
     at: Option<usize>,
     arms: &[Arm<Boxed<Stmt>>],
     now: &mut [Tern],
     next: &mut [Tern],
 ) -> Result<Side, EvalFault>
-    requires { IsReady bits.now marks.now now.old next.old }
+    requires { IsReady reads.now bits.now read_marks.now marks.now now.old next.old }
     ensures now { OnOk result (now.new ≡ now.old) }
     ensures next { OnOk result (next.new ≡ next.old) }
-    ensures side { IfOk result (λ out. IsSide bits.now (record { now = now.old; next = next.old }) (body_at at (map (with_body (run design.now bits.now)) arms.now) (record { now = now.old; next = next.old })) out.seen.items out.becomes.items) }
+    ensures side { IfOk result (λ out. IsSide reads.now bits.now (record { now = now.old; next = next.old }) (body_at at (map (with_body (run design.now reads.now bits.now)) arms.now) (record { now = now.old; next = next.old })) out.seen.items out.becomes.items) }
 {
     match at {
-        None => side_of(alloc, bits, now, next),
+        None => side_of(alloc, reads, bits, now, next),
         Some(i) => {
             if arms.len() <= i {
-                return side_of(alloc, bits, now, next);
+                return side_of(alloc, reads, bits, now, next);
             }
-            tried(alloc, design, bits, marks, arms[i].body.get(), now, next)
+            tried(
+                alloc,
+                design,
+                reads,
+                bits,
+                read_marks,
+                marks,
+                arms[i].body.get(),
+                now,
+                next,
+            )
         }
     }
 }
@@ -240,7 +259,9 @@ fn tried_standing(
 fn tried_item(
     alloc: Global,
     design: &Design,
+    reads: &[u32],
     bits: &[u32],
+    read_marks: &[bool],
     marks: &[bool],
     choice: &Choice,
     body: &Stmt,
@@ -249,20 +270,22 @@ fn tried_item(
     now: &mut [Tern],
     next: &mut [Tern],
 ) -> Result<Side, EvalFault>
-    requires ready { IsReady bits.now marks.now now.old next.old }
-    requires seen { length rest.now.seen.items ≡ length bits.now }
+    requires ready { IsReady reads.now bits.now read_marks.now marks.now now.old next.old }
+    requires seen { length rest.now.seen.items ≡ length reads.now }
     requires becomes { length rest.now.becomes.items ≡ length bits.now }
     requires covers { CoversAll design.now (shape_of choice.now.context) labels.now }
     ensures now { OnOk result (now.new ≡ now.old) }
     ensures next { OnOk result (next.new ≡ next.old) }
-    ensures side { (other : Run) → IsSide bits.now (record { now = now.old; next = next.old }) other rest.now.seen.items rest.now.becomes.items →
-        IfOk result (λ out. IsSide bits.now (record { now = now.old; next = next.old })
-        (chosen bits.now (any_hit design.now now.old choice.now.how (shape_of choice.now.context) choice.now.word.items labels.now) (run design.now bits.now body.now (record { now = now.old; next = next.old })) other)
+    ensures side { (other : Run) → IsSide reads.now bits.now (record { now = now.old; next = next.old }) other rest.now.seen.items rest.now.becomes.items →
+        IfOk result (λ out. IsSide reads.now bits.now (record { now = now.old; next = next.old })
+        (chosen reads.now bits.now (any_hit design.now now.old choice.now.how (shape_of choice.now.context) choice.now.word.items labels.now) (run design.now reads.now bits.now body.now (record { now = now.old; next = next.old })) other)
         out.seen.items out.becomes.items) }
 {
     let Choice { how, context, word } = choice;
     let hit = any_hit(alloc, design, now, *how, *context, word.as_slice(), labels)?;
-    let side = match tried(alloc, design, bits, marks, body, now, next) {
+    let side = match tried(
+        alloc, design, reads, bits, read_marks, marks, body, now, next,
+    ) {
         Ok(side) => side,
         Err(fault) => return Err(fault),
     };
@@ -274,7 +297,9 @@ fn tried_item(
 fn tried_items(
     alloc: Global,
     design: &Design,
+    reads: &[u32],
     bits: &[u32],
+    read_marks: &[bool],
     marks: &[bool],
     choice: &Choice,
     at: Option<usize>,
@@ -282,15 +307,17 @@ fn tried_items(
     now: &mut [Tern],
     next: &mut [Tern],
 ) -> Result<Side, EvalFault>
-    requires ready { IsReady bits.now marks.now now.old next.old }
+    requires ready { IsReady reads.now bits.now read_marks.now marks.now now.old next.old }
     requires covers { CoversAll design.now (shape_of choice.now.context) (labels_of arms.now) }
     ensures now { OnOk result (now.new ≡ now.old) }
     ensures next { OnOk result (next.new ≡ next.old) }
-    ensures side { IfOk result (λ out. IsSide bits.now (record { now = now.old; next = next.old })
-        (case_run bits.now (any_hit design.now now.old choice.now.how (shape_of choice.now.context) choice.now.word.items) at (map (with_body (run design.now bits.now)) arms.now) (record { now = now.old; next = next.old }))
+    ensures side { IfOk result (λ out. IsSide reads.now bits.now (record { now = now.old; next = next.old })
+        (case_run reads.now bits.now (any_hit design.now now.old choice.now.how (shape_of choice.now.context) choice.now.word.items) at (map (with_body (run design.now reads.now bits.now)) arms.now) (record { now = now.old; next = next.old }))
         out.seen.items out.becomes.items) }
 {
-    let mut side = match tried_standing(alloc, design, bits, marks, at, arms, now, next) {
+    let mut side = match tried_standing(
+        alloc, design, reads, bits, read_marks, marks, at, arms, now, next,
+    ) {
         Ok(side) => side,
         Err(fault) => return Err(fault),
     };
@@ -301,7 +328,8 @@ fn tried_items(
         let body = arms[left].body.get();
         if !is_at(at, left) {
             side = match tried_item(
-                alloc, design, bits, marks, choice, body, labels, &side, now, next,
+                alloc, design, reads, bits, read_marks, marks, choice, body, labels, &side, now,
+                next,
             ) {
                 Ok(side) => side,
                 Err(fault) => return Err(fault),
@@ -316,7 +344,9 @@ fn tried_items(
 fn run_case(
     alloc: Global,
     design: &Design,
+    reads: &[u32],
     bits: &[u32],
+    read_marks: &[bool],
     marks: &[bool],
     choice: &Choice,
     at: Option<usize>,
@@ -324,19 +354,23 @@ fn run_case(
     now: &mut [Tern],
     next: &mut [Tern],
 ) -> Result<(), EvalFault>
-    requires ready { IsReady bits.now marks.now now.old next.old }
+    requires ready { IsReady reads.now bits.now read_marks.now marks.now now.old next.old }
     requires covers { CoversAll design.now (shape_of choice.now.context) (labels_of arms.now) }
-    ensures { OnOk result (Runs bits.now (λ r. case_run bits.now (any_hit design.now r.now choice.now.how (shape_of choice.now.context) choice.now.word.items) at (map (with_body (run design.now bits.now)) arms.now) r) now.old next.old now.new next.new) }
+    ensures { OnOk result (Runs reads.now bits.now (λ r. case_run reads.now bits.now (any_hit design.now r.now choice.now.how (shape_of choice.now.context) choice.now.word.items) at (map (with_body (run design.now reads.now bits.now)) arms.now) r) now.old next.old now.new next.new) }
 {
-    let side = match tried_items(alloc, design, bits, marks, choice, at, arms, now, next) {
+    let side = match tried_items(
+        alloc, design, reads, bits, read_marks, marks, choice, at, arms, now, next,
+    ) {
         Ok(side) => side,
         Err(fault) => return Err(fault),
     };
-    put_side(bits, &side, now, next);
+    put_side(reads, bits, &side, now, next);
     Ok(())
 }
 
 /// What the bits become of a state: what the body of the process that assigns them makes of it, in the order of the bits.
+/// Later reads see what is assigned to `reads`: `bits` again for a process without edges; for one with edges the bits of the
+/// variables of its loops, or none where nothing reads one behind its loop.
 /// A body has no loops; one would be its body, run once.
 ///
 /// # Errors
@@ -344,19 +378,23 @@ fn run_case(
 pub fn run_body(
     alloc: Global,
     design: &Design,
+    reads: &[u32],
     bits: &[u32],
     body: &Stmt,
     state: &[Tern],
 ) -> Result<Vec<Tern>, EvalFault>
-    ensures { IfOk result (λ w. w.items ≡ worth design.now bits.now body.now state.now) }
+    ensures { IfOk result (λ w. w.items ≡ worth design.now reads.now bits.now body.now state.now) }
 {
+    let read_marks = marked(alloc, reads, state.len())?;
     let marks = marked(alloc, bits, state.len())?;
     let mut now = state.to_vec(alloc)?;
     let mut next = state.to_vec(alloc)?;
     run(
         alloc,
         design,
+        reads,
         bits,
+        read_marks.as_slice(),
         marks.as_slice(),
         body,
         &mut now,

@@ -3,7 +3,7 @@ ghost use Rattle.std.specs.Prelude.{◌≡◌, length, IfOk, OnOk};
 ghost use Rattle.rdc_tern.specs.declared.value.Tern.{Tern};
 ghost use Rattle.rdc_tern.specs.Shifts.{select_of};
 ghost use Rattle.proc_values.specs.Runs.{Run, chosen, values_of};
-ghost use Rattle.proc_values.specs.Marks.{IsSide, scattered};
+ghost use Rattle.proc_values.specs.Marks.{IsSide, Runs, scattered};
 
 use crate::changes::{gathered, mixed, put_back};
 use design_form::EvalFault;
@@ -22,26 +22,33 @@ pub(crate) struct Side {
 /// The values that the bits have.
 pub(crate) fn side_of(
     alloc: Global,
+    reads: &[u32],
     bits: &[u32],
     now: &[Tern],
     next: &[Tern],
 ) -> Result<Side, EvalFault>
-    ensures now { IfOk result (λ side. side.seen.items ≡ values_of now.now bits.now) }
+    ensures now { IfOk result (λ side. side.seen.items ≡ values_of now.now reads.now) }
     ensures next { IfOk result (λ side. side.becomes.items ≡ values_of next.now bits.now) }
 {
-    let seen = gathered(alloc, bits, now)?;
+    let seen = gathered(alloc, reads, now)?;
     let becomes = gathered(alloc, bits, next)?;
     Ok(Side { seen, becomes })
 }
 
 /// The bits get these values.
-pub(crate) fn put_side(bits: &[u32], side: &Side, now: &mut [Tern], next: &mut [Tern])
-    requires now { length side.now.seen.items ≡ length bits.now }
+pub(crate) fn put_side(
+    reads: &[u32],
+    bits: &[u32],
+    side: &Side,
+    now: &mut [Tern],
+    next: &mut [Tern],
+)
+    requires now { length side.now.seen.items ≡ length reads.now }
     requires next { length side.now.becomes.items ≡ length bits.now }
-    ensures now { now.new ≡ scattered bits.now side.now.seen.items now.old }
+    ensures now { now.new ≡ scattered reads.now side.now.seen.items now.old }
     ensures next { next.new ≡ scattered bits.now side.now.becomes.items next.old }
 {
-    put_back(bits, side.seen.as_slice(), now);
+    put_back(reads, side.seen.as_slice(), now);
     put_back(bits, side.becomes.as_slice(), next);
 }
 
@@ -65,4 +72,47 @@ pub(crate) fn mixed_sides(
         second.becomes.as_slice(),
     )?;
     Ok(Side { seen, becomes })
+}
+
+/// The bits get what two sides leave of them.
+pub(crate) fn settle(
+    alloc: Global,
+    reads: &[u32],
+    bits: &[u32],
+    select: Tern,
+    first: &Side,
+    second: &Side,
+    now: &mut [Tern],
+    next: &mut [Tern],
+) -> Result<(), EvalFault>
+    requires first_seen { length first.now.seen.items ≡ length reads.now }
+    requires first_becomes { length first.now.becomes.items ≡ length bits.now }
+    requires second_seen { length second.now.seen.items ≡ length reads.now }
+    requires second_becomes { length second.now.becomes.items ≡ length bits.now }
+    ensures { (one other : Run) → IsSide reads.now bits.now (record { now = now.old; next = next.old }) one first.now.seen.items first.now.becomes.items
+        → IsSide reads.now bits.now (record { now = now.old; next = next.old }) other second.now.seen.items second.now.becomes.items
+        → OnOk result (Runs reads.now bits.now (λ _. chosen reads.now bits.now select one other) now.old next.old now.new next.new) }
+{
+    let mixed = mixed_sides(alloc, select, first, second)?;
+    put_side(reads, bits, &mixed, now, next);
+    Ok(())
+}
+
+/// The bits get what one side leaves of them, or stay.
+pub(crate) fn keep(
+    alloc: Global,
+    reads: &[u32],
+    bits: &[u32],
+    select: Tern,
+    first: &Side,
+    now: &mut [Tern],
+    next: &mut [Tern],
+) -> Result<(), EvalFault>
+    requires first_seen { length first.now.seen.items ≡ length reads.now }
+    requires first_becomes { length first.now.becomes.items ≡ length bits.now }
+    ensures { (one : Run) → IsSide reads.now bits.now (record { now = now.old; next = next.old }) one first.now.seen.items first.now.becomes.items
+        → OnOk result (Runs reads.now bits.now (λ r. chosen reads.now bits.now select one r) now.old next.old now.new next.new) }
+{
+    let second = side_of(alloc, reads, bits, now, next)?;
+    settle(alloc, reads, bits, select, first, &second, now, next)
 }

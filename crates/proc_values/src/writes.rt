@@ -32,19 +32,21 @@ fn strokes_of(
 /// Strokes on what each bit becomes, and on what reads see where the assignment is blocking.
 #[tactic(auto, unfolding(crate::specs::Bodies::written))]
 fn write(
+    reads: &[u32],
     bits: &[u32],
+    read_marks: &[bool],
     marks: &[bool],
     strokes: &[Stroke],
     by: Assigns,
     now: &mut [Tern],
     next: &mut [Tern],
 )
-    requires { IsReady bits.now marks.now now.old next.old }
-    ensures { Runs bits.now (written bits.now by strokes.now) now.old next.old now.new next.new }
+    requires { IsReady reads.now bits.now read_marks.now marks.now now.old next.old }
+    ensures { Runs reads.now bits.now (written reads.now bits.now by strokes.now) now.old next.old now.new next.new }
 {
     strike_all(bits, marks, strokes, next);
     match by {
-        Assigns::Blocking => strike_all(bits, marks, strokes, now),
+        Assigns::Blocking => strike_all(reads, read_marks, strokes, now),
         Assigns::Nonblocking => {}
     }
 }
@@ -53,7 +55,9 @@ fn write(
 pub(crate) fn assign(
     alloc: Global,
     design: &Design,
+    reads: &[u32],
     bits: &[u32],
+    read_marks: &[bool],
     marks: &[bool],
     target: &Expr,
     by: Assigns,
@@ -61,10 +65,19 @@ pub(crate) fn assign(
     now: &mut [Tern],
     next: &mut [Tern],
 ) -> Result<(), EvalFault>
-    requires { IsReady bits.now marks.now now.old next.old }
-    ensures { OnOk result (Runs bits.now (assign design.now bits.now target.now by value.now) now.old next.old now.new next.new) }
+    requires { IsReady reads.now bits.now read_marks.now marks.now now.old next.old }
+    ensures { OnOk result (Runs reads.now bits.now (assign design.now reads.now bits.now target.now by value.now) now.old next.old now.new next.new) }
 {
     let strokes = strokes_of(alloc, design, target, value, now)?;
-    write(bits, marks, strokes.as_slice(), by, now, next);
+    write(
+        reads,
+        bits,
+        read_marks,
+        marks,
+        strokes.as_slice(),
+        by,
+        now,
+        next,
+    );
     Ok(())
 }
