@@ -2,9 +2,6 @@
 ghost use Rattle.std.specs.Prelude.{◌≡◌, ◌<◌, ◌≤◌, length, map, Option, None, Some, IfOk, OnOk};
 ghost use Rattle.std.specs.Option.{option_map};
 ghost use Rattle.design_form.specs.Extents.{shape_of};
-ghost use Rattle.rdc_tern.specs.Words.{any_of};
-ghost use Rattle.design_form.specs.Values.{word_of};
-ghost use Rattle.design_form.specs.State.{seen_in};
 ghost use Rattle.design_sizes.specs.Sizes.{case_shape};
 ghost use Rattle.proc_cases.specs.Full.{is_full, labels_of};
 ghost use Rattle.proc_values.specs.Runs.{Run, chosen, values_of};
@@ -14,25 +11,17 @@ ghost use Rattle.proc_values.specs.Labels.{any_hit};
 ghost use Rattle.proc_values.specs.Bodies.{branch, cases, in_order, run, side, worth};
 ghost use Rattle.proc_values.specs.Marks.{IsReady, IsSide, Runs};
 
-use crate::cases::{Choice, choice_of, is_at, labels_at, standing};
+use crate::cases::{Choice, choice_of, is_at, labels_at, standing, test_of};
 use crate::changes::{gathered, marked};
 use crate::labels::any_hit;
 use crate::sides::{Side, keep, mixed_sides, put_side, settle, side_of};
 use crate::writes::assign;
-use design_form::{Design, EvalFault, eval};
+use design_form::{Design, EvalFault};
 use proc_cases::is_full;
-use rdc_tern::{Tern, any};
+use rdc_tern::Tern;
 use sqlite_items::Boxed;
 use std::alloc::Global;
 use vlog_tree::{Arm, Expr, Matching, Stmt};
-
-/// Whether the test of an `if` holds.
-fn tested(alloc: Global, design: &Design, test: &Expr, now: &[Tern]) -> Result<Tern, EvalFault>
-    ensures { IfOk result (λ t. t ≡ any_of (word_of (seen_in design.now now.now) test.now)) }
-{
-    let word = eval(alloc, design, test, now)?;
-    Ok(any(word.as_slice()))
-}
 
 /// What a statement makes of the states, which become that.
 ///
@@ -75,7 +64,7 @@ fn run(
             )
         }
         Stmt::If(_, test, first, other) => {
-            let hit = tested(alloc, design, test, now)?;
+            let hit = test_of(alloc, design, test, now)?;
             let first = tried(
                 alloc,
                 design,

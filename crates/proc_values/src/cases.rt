@@ -1,10 +1,11 @@
-//! Items of a `case`.
+//! Tests of an `if`, and items of a `case`.
 ghost use Rattle.std.specs.Prelude.{◌≡◌, length, IfOk};
 ghost use Rattle.design_form.specs.Extents.{shape_of};
 ghost use Rattle.design_form.specs.State.{seen_in};
-ghost use Rattle.design_form.specs.Values.{word_in};
+ghost use Rattle.design_form.specs.Values.{word_in, word_of};
 ghost use Rattle.design_sizes.specs.Sizes.{case_shape};
 ghost use Rattle.proc_cases.specs.Full.{labels_of};
+ghost use Rattle.rdc_tern.specs.Words.{any_of};
 ghost use Rattle.std.specs.Prelude.{◌<◌, get_or};
 ghost use Rattle.vlog_tree.specs.declared.stmt.Arm.{Arm};
 ghost use Rattle.vlog_tree.specs.declared.stmt.Stmt.{Stmt};
@@ -13,11 +14,24 @@ ghost use Rattle.proc_values.specs.Cases.{default_from, is_at, standing};
 
 use crate::contexts::word_in;
 use crate::sizes::case_size;
-use design_form::{Design, EvalFault, Extent};
-use rdc_tern::Tern;
+use design_form::{Design, EvalFault, Extent, eval};
+use rdc_tern::{Tern, any};
 use sqlite_items::Boxed;
 use std::alloc::Global;
 use vlog_tree::{Arm, Expr, Matching, Stmt};
+
+/// Whether the test of an `if` holds.
+pub(crate) fn test_of(
+    alloc: Global,
+    design: &Design,
+    test: &Expr,
+    now: &[Tern],
+) -> Result<Tern, EvalFault>
+    ensures { IfOk result (λ t. t ≡ any_of (word_of (seen_in design.now now.now) test.now)) }
+{
+    let word = eval(alloc, design, test, now)?;
+    Ok(any(word.as_slice()))
+}
 
 /// What the labels of a `case` are compared with.
 #[derive(Drop)]
@@ -67,6 +81,19 @@ pub(crate) fn is_at(at: Option<usize>, i: usize) -> bool
         None => false,
         Some(k) => k == i,
     }
+}
+
+/// Whether the test of an `if` holds.
+pub(crate) fn tested(
+    alloc: Global,
+    design: &Design,
+    test: &Expr,
+    now: &[Tern],
+) -> Result<Tern, EvalFault>
+    ensures { IfOk result (λ t. t ≡ any_of (word_of (seen_in design.now now.now) test.now)) }
+{
+    let word = eval(alloc, design, test, now)?;
+    Ok(any(word.as_slice()))
 }
 
 /// What the labels of a `case` are compared with.
