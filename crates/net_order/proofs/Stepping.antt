@@ -4,12 +4,12 @@ use Rattle.std.specs.List.{flat_map}
 use Rattle.std.proofs.lemmas.List.{get_or-set_same, get_or-set_other, length-set, length-replicate, length-reverse, length_push, get_or_read, append_assoc, append-nil, reverse-append, reverse-reverse}
 use Rattle.std.proofs.lemmas.List.Elements.{Contains-append_left, Contains-append_cases, Contains-push, Contains-push_cases, All-contains}
 use Rattle.std.proofs.lemmas.Bool.{cases_eq}
-use Rattle.net_view.proofs.Members.{contains_none, contains_head, contains_behind, contains_cases}
+use Rattle.net_view.proofs.Members.{All-from_contains, contains_none, contains_head, contains_behind, contains_cases}
 use Rattle.net_order.specs.declared.step.Step.{Step}
 use Rattle.net_order.specs.declared.step.Step.TheVariants.{Visit, Leave}
 use Rattle.net_order.specs.declared.step.Mark.{Mark}
 use Rattle.net_order.specs.declared.step.Mark.TheVariants.{New, Open, Done}
-use Rattle.net_order.specs.Order.{post, firsts}
+use Rattle.net_order.specs.Order.{post, firsts, IsInOrder}
 use Rattle.net_order.specs.Loops.{IsNeeded, IsWay, IsLoop}
 use Rattle.net_order.specs.Walk.{IsUnder, IsChain, HasLeave}
 use Rattle.net_order.proofs.Firsts.{all_already, firsts_push}
@@ -317,6 +317,31 @@ pub ended_free : (R : ℕ → List ℕ) (n : ℕ) (roots whole : List ℕ) (ms :
 ended_free R n roots whole ms done w [] loop needed = loop
 ended_free R n roots whole ms done w (k ∷ ks) loop needed =
     no_loop R done w.ready k ks (needed_in R roots done w.ready w.leads k (All-contains (IsNeeded R roots) (k ∷ ks) k needed (contains_head k ks))) loop
+
+-- ---- what the order promises
+
+in_order_push : (R : ℕ → List ℕ) (before ks : List ℕ) (k : ℕ) → IsInOrder R before ks → (Contains (before ++ ks) k → ⊥) → ((j : ℕ) → Contains (R k) j → Contains (before ++ ks) j) → IsInOrder R before (ks ++ k ∷ [])
+in_order_push R before [] k is new all =
+    (λ c. new (subst (λ (d : List ℕ). Contains d k) (sym (append-nil before)) c), λ j c. subst (λ (d : List ℕ). Contains d j) (append-nil before) (all j c), tt)
+in_order_push R before (m ∷ ms) k is new all =
+    (is.0, is.1, in_order_push R (before ++ m ∷ []) ms k is.2 (λ c. new (subst (λ (d : List ℕ). Contains d k) (append_assoc before (m ∷ []) ms) c)) (λ j c. subst (λ (d : List ℕ). Contains d j) (sym (append_assoc before (m ∷ []) ms)) (all j c)))
+
+ready_in_order : (R : ℕ → List ℕ) (done : List ℕ) → IsReady R done → IsInOrder R [] done
+ready_in_order R done none = tt
+ready_in_order R done (more d k ready new all) = in_order_push R [] d k (ready_in_order R d ready) new all
+
+-- at the end each gate stands behind what it reads
+pub ended_in_order : (R : ℕ → List ℕ) (n : ℕ) (roots whole : List ℕ) (ms : List Mark) (done : List ℕ) → IsWalk R n roots whole ms [] done → IsInOrder R [] done
+ended_in_order R n roots whole ms done w = ready_in_order R done w.ready
+
+marked_inside : (ms : List Mark) (k : ℕ) → mark ms k ≡ 2 → k < length ms
+marked_inside [] k is = absurd (omega (arith, is))
+marked_inside (m ∷ ms) zero is = omega arith
+marked_inside (m ∷ ms) (suc k) is = let rest = marked_inside ms k is in omega (arith, rest)
+
+-- they are among the gates
+pub ended_inside : (R : ℕ → List ℕ) (n : ℕ) (roots whole : List ℕ) (ms : List Mark) (done : List ℕ) → IsWalk R n roots whole ms [] done → All (λ k. k < n) done
+ended_inside R n roots whole ms done w = All-from_contains (λ k. k < n) done (λ k c. let lt = marked_inside ms k (w.marked k c) in omega (arith, lt, w.count))
 
 -- ---- the loop
 

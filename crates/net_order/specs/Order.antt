@@ -1,8 +1,9 @@
 -- The order of gates: from the bits in their order, fan-ins first, left before right, each gate once.
 --   reads            the gates that a gate reads; a leaf reads the root of its bit
 --   post, order      what a gate's value needs, fan-ins first, and all that the bits need, each once
+--   IsInOrder        gates that each stand once, and behind all that they read
 --   AreInside        each root is a gate of the list
-use Rattle.std.specs.Prelude.{ℕ, zero, suc, ◌<◌, List, [], ◌∷◌, ◌++◌, length, slice_get, slice_index_or, Option, Some, None, IfSome, All, if◌then◌else◌, ◌==◌}
+use Rattle.std.specs.Prelude.{ℕ, zero, suc, ◌<◌, List, [], ◌∷◌, ◌++◌, length, slice_get, slice_index_or, Option, Some, None, IfSome, All, if◌then◌else◌, ◌==◌, Contains}
 use Rattle.std.specs.List.{flat_map}
 use Rattle.net_view.specs.declared.gate.Gate.TheVariants.{Const, Source, Not, And, Or, Xor, Pick, Lift}
 use Rattle.net_view.specs.View.{Numbered}
@@ -54,6 +55,11 @@ roots_in roots = flat_map root_in roots
 -- all that the bits need, fan-ins first, each gate once
 abbrev pub order : List Numbered → List (Option ℕ) → List ℕ
 order gates roots = firsts (flat_map (post (reads gates roots) (length gates)) (roots_in roots))
+
+-- each of these gates stands here alone, and behind all that it reads, where some stand before
+abbrev pub IsInOrder : (ℕ → List ℕ) → List ℕ → List ℕ → Type 0
+IsInOrder reads before [] = Unit {0}
+IsInOrder reads before (k ∷ ks) = (Contains before k → ⊥) × ((j : ℕ) → Contains (reads k) j → Contains before j) × IsInOrder reads (before ++ k ∷ []) ks
 
 -- each root is one of so many gates
 abbrev pub AreInside : ℕ → List (Option ℕ) → Type 0

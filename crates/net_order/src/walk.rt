@@ -1,9 +1,9 @@
 //! The walk from the roots of bits, fan-ins first.
 
-ghost use Rattle.std.specs.Prelude.{◌≡◌, ◌<◌, [], ◌∷◌, ◌++◌, length, map, reverse, set, replicate, OnOk, IfOk, IfErr};
+ghost use Rattle.std.specs.Prelude.{◌≡◌, ℕ, ◌<◌, [], ◌∷◌, ◌++◌, length, map, reverse, set, replicate, All, Contains, OnOk, IfOk, IfErr};
 ghost use Rattle.net_order.specs.declared.step.Step.TheVariants.{Visit, Leave};
 ghost use Rattle.net_order.specs.declared.step.Mark.TheVariants.{New, Open, Done};
-ghost use Rattle.net_order.specs.Order.{reads, fan_ins, roots_in, AreInside};
+ghost use Rattle.net_order.specs.Order.{reads, fan_ins, roots_in, AreInside, IsInOrder};
 ghost use Rattle.net_order.specs.Order as orders;
 ghost use Rattle.net_order.specs.Loops.{HasNoLoop, IsWhyNot};
 
@@ -135,8 +135,10 @@ impl Walk {
 pub fn order(alloc: Global, gates: &GateList, roots: &[Option<u32>]) -> Result<Vec<u32>, OrderFault>
     requires { AreInside (length gates.now) roots.now }
     ensures order { IfOk result (λ order. order.items ≡ orders.order gates.now roots.now) }
+    ensures inside { IfOk result (λ order. All (λ k. k < length gates.now) order.items) }
+    ensures ready { IfOk result (λ order. IsInOrder (reads gates.now roots.now) [] order.items) }
+    ensures roots { IfOk result (λ order. (k : ℕ) → Contains (roots_in roots.now) k → Contains order.items k) }
     ensures free { IfOk result (λ _. HasNoLoop gates.now roots.now) }
-
     ensures fault { IfErr result (IsWhyNot gates.now roots.now) }
 {
     let gates = gates.gates();

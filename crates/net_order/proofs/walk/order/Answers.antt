@@ -1,14 +1,14 @@
-use Rattle.std.proofs.Common.{◌≡◌, inl, refl, ap, sym, subst, map, reverse, set, replicate, length, arith, ◌<◌, List, [], ◌++◌, ◌∷◌}
+use Rattle.std.proofs.Common.{◌≡◌, inl, refl, ap, sym, subst, map, reverse, set, replicate, length, arith, ◌<◌, All, List, [], ◌++◌, ◌∷◌}
 use Rattle.std.proofs.lemmas.List.{nil_from_length}
 use Rattle.net_view.specs.View.{Numbered}
 use Rattle.net_gates.specs.Gates.{IsGateList}
 use Rattle.net_order.specs.declared.step.Step.{Step}
 use Rattle.net_order.specs.declared.step.Step.TheVariants.{Visit, Leave}
 use Rattle.net_order.specs.declared.step.Mark.TheVariants.{New, Open, Done}
-use Rattle.net_order.specs.Order.{reads, roots_in, AreInside}
+use Rattle.net_order.specs.Order.{reads, roots_in, AreInside, IsInOrder}
 use Rattle.net_order.specs.Order as orders
 use Rattle.net_order.specs.Loops.{IsNeededLoop, HasNoLoop}
-use Rattle.net_order.proofs.Stepping.{IsWalk, begun, taken, walk_same, mark_read, leave_step, skip_step, enter_step, less_leave, less_enter, ended_free}
+use Rattle.net_order.proofs.Stepping.{IsWalk, begun, taken, walk_same, mark_read, leave_step, skip_step, enter_step, less_leave, less_enter, ended_free, ended_in_order, ended_inside}
 use Rattle.net_order.proofs.Reading.{roots_inside, reads_inside, reads_few}
 use Rattle.net_order.proofs.walk.order.Goals as goal
 
@@ -128,3 +128,29 @@ returns-clause-free c =
     let w = subst (λ (s : List Step). IsWalk (reads gates roots) (length gates) (roots_in roots) (orders.order gates roots) c.steps.walk.marks.items (reverse s) c.steps.walk.done.items) ends c.steps.invariant.walk in
     subst (λ (gs : List Numbered). HasNoLoop gs roots) c.gates-gates.ensures.gates
     (λ ks h. ended_free (reads gates roots) (length gates) (roots_in roots) (orders.order gates roots) c.steps.walk.marks.items c.steps.walk.done.items w ks h.loop h.needed)
+
+pub returns-clause-inside : goal.returns-clause-inside
+returns-clause-inside c =
+    let gates = c.gates-gates.result.now in
+    let roots = c.args.roots.now in
+    let ends : c.steps.walk.steps.items ≡ [] = nil_from_length c.steps.walk.steps.items (omega (arith, c.in_default.ensures.cases.0)) in
+    let w = subst (λ (s : List Step). IsWalk (reads gates roots) (length gates) (roots_in roots) (orders.order gates roots) c.steps.walk.marks.items (reverse s) c.steps.walk.done.items) ends c.steps.invariant.walk in
+    subst (λ (gs : List Numbered). All (λ k. k < length gs) c.steps.walk.done.items) c.gates-gates.ensures.gates
+    (ended_inside (reads gates roots) (length gates) (roots_in roots) (orders.order gates roots) c.steps.walk.marks.items c.steps.walk.done.items w)
+
+pub returns-clause-ready : goal.returns-clause-ready
+returns-clause-ready c =
+    let gates = c.gates-gates.result.now in
+    let roots = c.args.roots.now in
+    let ends : c.steps.walk.steps.items ≡ [] = nil_from_length c.steps.walk.steps.items (omega (arith, c.in_default.ensures.cases.0)) in
+    let w = subst (λ (s : List Step). IsWalk (reads gates roots) (length gates) (roots_in roots) (orders.order gates roots) c.steps.walk.marks.items (reverse s) c.steps.walk.done.items) ends c.steps.invariant.walk in
+    subst (λ (gs : List Numbered). IsInOrder (reads gs roots) [] c.steps.walk.done.items) c.gates-gates.ensures.gates
+    (ended_in_order (reads gates roots) (length gates) (roots_in roots) (orders.order gates roots) c.steps.walk.marks.items c.steps.walk.done.items w)
+
+pub returns-clause-roots : goal.returns-clause-roots
+returns-clause-roots c =
+    let gates = c.gates-gates.result.now in
+    let roots = c.args.roots.now in
+    let ends : c.steps.walk.steps.items ≡ [] = nil_from_length c.steps.walk.steps.items (omega (arith, c.in_default.ensures.cases.0)) in
+    let w = subst (λ (s : List Step). IsWalk (reads gates roots) (length gates) (roots_in roots) (orders.order gates roots) c.steps.walk.marks.items (reverse s) c.steps.walk.done.items) ends c.steps.invariant.walk in
+    w.leads
