@@ -1,9 +1,11 @@
 -- Which gates a process body without loops is (IEEE 1364-2005, clause 9): statement by statement, as `proc_values` says what
 -- it is worth.
---   run d bits s r               what a statement makes of r, in a process that assigns `bits`
---   drawn d bits s nodes         the nodes that these bits become, where each bit of the design has a node before
+--   run d reads bits s r         what a statement makes of r, in a process that assigns `bits` and whose later reads see what is
+--                                assigned to `reads`
+--   drawn d reads bits s nodes   the nodes that `bits` become, where each bit of the design has a node before
 -- `if` and `case` draw all their sides from the same nodes, and select each bit that the process assigns, also one that no side
--- touches. A blocking assignment is seen by later reads, a nonblocking one isn't.
+-- touches; what later reads see, at the bits of `reads` alone. A blocking assignment is seen by later reads, a nonblocking one
+-- isn't.
 use Rattle.std.specs.Prelude.{ℕ, List, [], ◌∷◌, Option, None, Some}
 use Rattle.vlog_tree.specs.declared.expr.Expr.{Expr}
 use Rattle.vlog_tree.specs.declared.stmt.Arm.{Arm}
@@ -29,13 +31,13 @@ use Rattle.net_procs.specs.Cases.{case_run}
 
 -- ---- assignments
 
--- a write, which later reads see if it is blocking
-unfoldable pub written : List ℕ → Assigns → List Stroke → Step
-written bits Blocking ks r = do
+-- a write, which later reads see if it is blocking, and at `reads` alone
+unfoldable pub written : List ℕ → List ℕ → Assigns → List Stroke → Step
+written reads bits Blocking ks r = do
   next ← struck bits ks r.next
-  now ← struck bits ks r.now
+  now ← struck reads ks r.now
   return (record { now = now; next = next })
-written bits Nonblocking ks r = do
+written reads bits Nonblocking ks r = do
   next ← struck bits ks r.next
   return (record { now = r.now; next = next })
 
@@ -45,10 +47,10 @@ strokes_of d target value now = do
   word ← built_within (wired_in d now) (shape_of d target).width value
   strokes d now target word
 
-unfoldable pub assign : Parts → List ℕ → Expr → Assigns → Expr → Step
-assign d bits target by value r = do
+unfoldable pub assign : Parts → List ℕ → List ℕ → Expr → Assigns → Expr → Step
+assign d reads bits target by value r = do
   ks ← strokes_of d target value r.now
-  written bits by ks r
+  written reads bits by ks r
 
 -- ---- choices
 
@@ -63,21 +65,21 @@ tested d test now = do
   word ← built_of (wired_in d now) test
   any word
 
-unfoldable pub branch : Parts → List ℕ → Expr → Step → Step → Step
-branch d bits test one other r = do
+unfoldable pub branch : Parts → List ℕ → List ℕ → Expr → Step → Step → Step
+branch d reads bits test one other r = do
   c ← tested d test r.now
   x ← one r
   y ← other r
-  chosen bits c x y
+  chosen reads bits c x y
 
 -- the items behind a selector that is drawn, where c is the shape of the selector and all labels together
-abbrev pub cases_by : Parts → List ℕ → Matching → Shape → Option ℕ → List ℕ → List (Arm Step) → Step
-cases_by d bits how c at selector arms r = case_run bits (any_hit d r.now how c selector) at arms r
+abbrev pub cases_by : Parts → List ℕ → List ℕ → Matching → Shape → Option ℕ → List ℕ → List (Arm Step) → Step
+cases_by d reads bits how c at selector arms r = case_run reads bits (any_hit d r.now how c selector) at arms r
 
-unfoldable pub cases : Parts → List ℕ → Matching → Expr → List (Arm Step) → Step
-cases d bits how selector arms r = do
+unfoldable pub cases : Parts → List ℕ → List ℕ → Matching → Expr → List (Arm Step) → Step
+cases d reads bits how selector arms r = do
   word ← built_in (wired_in d r.now) (case_shape d selector (labels_of arms)) selector
-  cases_by d bits how (case_shape d selector (labels_of arms)) (standing (is_full d how selector (labels_of arms)) arms) word arms r
+  cases_by d reads bits how (case_shape d selector (labels_of arms)) (standing (is_full d how selector (labels_of arms)) arms) word arms r
 
 -- ---- statements
 
@@ -89,19 +91,19 @@ in_order (f ∷ fs) r = do
   in_order fs next
 
 -- by the parts of a statement. No loop stands in it: one would be its body, run once
-unfoldable pub run_by_parts : Parts → List ℕ → Stmt-F Step → Step
-run_by_parts d bits (Stmt-F.Empty place) r = return r
-run_by_parts d bits (Stmt-F.Block place label inner) r = in_order inner r
-run_by_parts d bits (Stmt-F.Assign place target by value) r = assign d bits target by value r
-run_by_parts d bits (Stmt-F.If place test a b) r = branch d bits test a (side b) r
-run_by_parts d bits (Stmt-F.Case place how selector arms) r = cases d bits how selector arms r
-run_by_parts d bits (Stmt-F.For place h body) r = body r
+unfoldable pub run_by_parts : Parts → List ℕ → List ℕ → Stmt-F Step → Step
+run_by_parts d reads bits (Stmt-F.Empty place) r = return r
+run_by_parts d reads bits (Stmt-F.Block place label inner) r = in_order inner r
+run_by_parts d reads bits (Stmt-F.Assign place target by value) r = assign d reads bits target by value r
+run_by_parts d reads bits (Stmt-F.If place test a b) r = branch d reads bits test a (side b) r
+run_by_parts d reads bits (Stmt-F.Case place how selector arms) r = cases d reads bits how selector arms r
+run_by_parts d reads bits (Stmt-F.For place h body) r = body r
 
-unfoldable pub run : Parts → List ℕ → Stmt → Step
-run d bits = fold-Stmt Step (run_by_parts d bits)
+unfoldable pub run : Parts → List ℕ → List ℕ → Stmt → Step
+run d reads bits = fold-Stmt Step (run_by_parts d reads bits)
 
--- the nodes that these bits become
-unfoldable pub drawn : Parts → List ℕ → Stmt → List ℕ → Build (List ℕ)
-drawn d bits s nodes = do
-  r ← run d bits s (record { now = nodes; next = nodes })
+-- the nodes that `bits` become
+unfoldable pub drawn : Parts → List ℕ → List ℕ → Stmt → List ℕ → Build (List ℕ)
+drawn d reads bits s nodes = do
+  r ← run d reads bits s (record { now = nodes; next = nodes })
   return (nodes_of r.next bits)

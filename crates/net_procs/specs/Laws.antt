@@ -13,5 +13,5 @@ abbrev pub AreBits : List ℕ → List ℕ → Type 0
 AreBits bits nodes = All (λ b. b < length nodes) bits
 
 abbrev pub AreWorthBodies : Type 0
-AreWorthBodies = (d : Parts) (bits : List ℕ) (s : Stmt) (nodes : List ℕ) → HasNodes d nodes → AreBits bits nodes
-    → IsWorth (drawn d bits s nodes) (λ v made. map v made ≡ worth d bits s (map v nodes))
+AreWorthBodies = (d : Parts) (reads bits : List ℕ) (s : Stmt) (nodes : List ℕ) → HasNodes d nodes → AreBits reads nodes → AreBits bits nodes
+    → IsWorth (drawn d reads bits s nodes) (λ v made. map v made ≡ worth d reads bits s (map v nodes))

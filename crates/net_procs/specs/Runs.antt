@@ -6,7 +6,7 @@
 --   struck bits ks nodes          strokes, one after the other
 --   scattered bits word nodes     nodes put back at bits, the last one last
 --   mixed bits c ys ns            each of these bits becomes mux(c, y, n); others are as in ns
---   chosen bits c one other       the same of both
+--   chosen reads bits c one other the same of both: of what reads see at `reads`, of what bits become at `bits`
 use Rattle.std.specs.Prelude.{ℕ, if◌then◌else◌, List, [], ◌∷◌, map, slice_set, Option, Some, None}
 use Rattle.net_words.specs.Builds.{Build, ◌>>=◌, return}
 use Rattle.net_words.specs.Bits.{mux}
@@ -61,8 +61,8 @@ mixed bits c ys ns = do
   word ← select c (nodes_of ys bits) (nodes_of ns bits)
   return (scattered bits word ns)
 
-unfoldable pub chosen : List ℕ → ℕ → Run → Run → Build Run
-chosen bits c one other = do
-  now ← mixed bits c one.now other.now
+unfoldable pub chosen : List ℕ → List ℕ → ℕ → Run → Run → Build Run
+chosen reads bits c one other = do
+  now ← mixed reads c one.now other.now
   next ← mixed bits c one.next other.next
   return (record { now = now; next = next })

@@ -5,9 +5,10 @@ ghost use Rattle.net_words.specs.Builds.{Builds, AreThere};
 ghost use Rattle.net_exprs.specs.Names.{node_at};
 ghost use Rattle.net_procs.specs.Laws.{AreBits};
 ghost use Rattle.net_procs.specs.Runs as spec;
-ghost use Rattle.net_procs.specs.Ready.{run_of};
+ghost use Rattle.net_procs.specs.Ready.{run_of, Fits};
 
 use crate::changes::set_node;
+use crate::frame::Frame;
 use net_gates::{GateFault, GateList, Node};
 use net_words::select;
 use std::alloc::Global;
@@ -73,43 +74,39 @@ pub(crate) fn mixed(
     Ok(())
 }
 
-/// The same of what reads see and of what the bits become.
+/// The same of what reads see, at the bits at which they see it, and of what the bits become.
 pub(crate) fn chosen(
     alloc: Global,
     net: &mut GateList,
-    bits: &[u32],
+    frame: &Frame<'_>,
     choice: Node,
     first: &Wires,
     other: Wires,
 ) -> Result<Wires, GateFault>
     requires choice { choice < length net.old }
-    requires first_now_bits { AreBits bits.now first.now.seen.items }
-    requires first_next_bits { AreBits bits.now first.now.becomes.items }
-    requires now_bits { AreBits bits.now other.seen.items }
-    requires next_bits { AreBits bits.now other.becomes.items }
-    requires first_now { AreThere net.old first.now.seen.items }
-    requires first_next { AreThere net.old first.now.becomes.items }
-    requires now { AreThere net.old other.seen.items }
-    requires next { AreThere net.old other.becomes.items }
-    ensures builds { Builds run_of (spec.chosen bits.now choice (run_of first.now) (run_of other)) net.old result net.new }
-    ensures now_long { IfOk result (λ r. length r.seen.items ≡ length other.seen.items) }
-    ensures next_long { IfOk result (λ r. length r.becomes.items ≡ length other.becomes.items) }
-    ensures now_inside { IfOk result (λ r. AreThere net.new r.seen.items) }
-    ensures next_inside { IfOk result (λ r. AreThere net.new r.becomes.items) }
+    requires first { Fits frame.now net.old (run_of first.now) }
+    requires other { Fits frame.now net.old (run_of other) }
+    ensures builds { Builds run_of (spec.chosen frame.now.reads.now frame.now.bits.now choice (run_of first.now) (run_of other)) net.old result net.new }
+    ensures fits { IfOk result (λ r. Fits frame.now net.new (run_of r)) }
     ensures longer { length net.old ≤ length net.new }
 {
     let Wires {
         mut seen,
         mut becomes,
     } = other;
-    mixed(alloc, net, bits, choice, first.seen.as_slice(), &mut seen)?;
-    mixed(
-        alloc,
-        net,
-        bits,
-        choice,
-        first.becomes.as_slice(),
-        &mut becomes,
-    )?;
+    let Frame { reads, bits, .. } = *frame;
+    mixed(alloc, net, reads, choice, first.seen.as_slice(), &mut seen)?;
+    let ones = first.becomes.as_slice();
+    mixed(alloc, net, bits, choice, ones, &mut becomes)?;
+    Ok(Wires { seen, becomes })
+}
+
+/// The same nodes again, for one side of a choice.
+pub(crate) fn copied(alloc: Global, wires: &Wires) -> Result<Wires, GateFault>
+    ensures run { IfOk result (λ r. run_of r ≡ run_of wires.now) }
+    ensures fault { IfErr result (λ fault. fault ≡ Memory) }
+{
+    let seen = wires.seen.as_slice().to_vec(alloc)?;
+    let becomes = wires.becomes.as_slice().to_vec(alloc)?;
     Ok(Wires { seen, becomes })
 }

@@ -1,53 +1,89 @@
-//! Writes on what each bit becomes, and on what reads see, and tests of choices.
+//! Assignments, and tests of choices.
 ghost use Rattle.std.specs.Prelude.{◌≡◌, ◌<◌, ◌≤◌, length, IfOk};
 ghost use Rattle.net_words.specs.Builds.{Builds, AreThere};
 ghost use Rattle.net_exprs.specs.Names.{HasNodes};
-ghost use Rattle.net_procs.specs.Laws.{AreBits};
 ghost use Rattle.net_procs.specs.Bodies as spec;
-ghost use Rattle.net_procs.specs.Ready.{run_of, AreStrokes};
+ghost use Rattle.net_procs.specs.Ready.{run_of, AreStrokes, Fits};
 
 use crate::changes::strike;
+use crate::frame::Frame;
+use crate::indices::width_of;
 use crate::stroke::Stroke;
+use crate::targets::strokes;
 use crate::wires::Wires;
 use design_form::Design;
-use net_exprs::lower_alone;
+use net_exprs::{lower_alone, lower_within};
 use net_gates::{GateFault, GateList, Node};
 use net_words::any;
 use std::alloc::Global;
 use vlog_tree::{Assigns, Expr};
 
 /// Strokes on what each bit becomes, and behind them on what reads see where the assignment is blocking.
-pub(crate) fn write(
+fn write(
     net: &mut GateList,
-    bits: &[u32],
+    frame: &Frame<'_>,
     strokes: &[Stroke],
     by: Assigns,
     wires: Wires,
 ) -> Result<Wires, GateFault>
-    requires now_bits { AreBits bits.now wires.seen.items }
-    requires next_bits { AreBits bits.now wires.becomes.items }
+    requires fits { Fits frame.now net.old (run_of wires) }
     requires strokes { AreStrokes net.old strokes.now }
-    requires now { AreThere net.old wires.seen.items }
-    requires next { AreThere net.old wires.becomes.items }
-    ensures builds { Builds run_of (spec.written bits.now by strokes.now (run_of wires)) net.old result net.new }
-    ensures now_long { IfOk result (λ r. length r.seen.items ≡ length wires.seen.items) }
-    ensures next_long { IfOk result (λ r. length r.becomes.items ≡ length wires.becomes.items) }
-    ensures now_inside { IfOk result (λ r. AreThere net.new r.seen.items) }
-    ensures next_inside { IfOk result (λ r. AreThere net.new r.becomes.items) }
+    ensures builds { Builds run_of (spec.written frame.now.reads.now frame.now.bits.now by strokes.now (run_of wires)) net.old result net.new }
+    ensures fits { IfOk result (λ r. Fits frame.now net.new (run_of r)) }
     ensures longer { length net.old ≤ length net.new }
 {
     let Wires {
         mut seen,
         mut becomes,
     } = wires;
-    strike(net, bits, strokes, &mut becomes)?;
+    strike(net, frame.bits, strokes, &mut becomes)?;
     match by {
         Assigns::Blocking => {
-            strike(net, bits, strokes, &mut seen)?;
+            strike(net, frame.reads, strokes, &mut seen)?;
             Ok(Wires { seen, becomes })
         }
         Assigns::Nonblocking => Ok(Wires { seen, becomes }),
     }
+}
+
+/// What an assignment writes: the value is drawn as on the right of an assignment to the target's width, then the target.
+fn strokes_of(
+    alloc: Global,
+    net: &mut GateList,
+    design: &Design,
+    target: &Expr,
+    value: &Expr,
+    nodes: &[Node],
+) -> Result<Vec<Stroke>, GateFault>
+    requires has { HasNodes design.now nodes.now }
+    requires nodes { AreThere net.old nodes.now }
+    ensures builds { Builds (λ ks. ks.items) (spec.strokes_of design.now target.now value.now nodes.now) net.old result net.new }
+    ensures inside { IfOk result (λ ks. AreStrokes net.new ks.items) }
+    ensures longer { length net.old ≤ length net.new }
+{
+    let width = width_of(alloc, design, target)?;
+    let word = lower_within(alloc, net, design, nodes, value, width)?;
+    strokes(alloc, net, design, nodes, target, word.as_slice())
+}
+
+/// An assignment.
+pub(crate) fn assign(
+    alloc: Global,
+    net: &mut GateList,
+    frame: &Frame<'_>,
+    target: &Expr,
+    by: Assigns,
+    value: &Expr,
+    wires: Wires,
+) -> Result<Wires, GateFault>
+    requires fits { Fits frame.now net.old (run_of wires) }
+    ensures builds { Builds run_of (spec.assign frame.now.design.now frame.now.reads.now frame.now.bits.now target.now by value.now (run_of wires)) net.old result net.new }
+    ensures fits { IfOk result (λ r. Fits frame.now net.new (run_of r)) }
+    ensures longer { length net.old ≤ length net.new }
+{
+    let nodes = wires.seen.as_slice();
+    let strokes = strokes_of(alloc, net, frame.design, target, value, nodes)?;
+    write(net, frame, strokes.as_slice(), by, wires)
 }
 
 /// Whether the test of an `if` holds.
