@@ -1,2 +1,9 @@
+pub mod Steps
+pub mod FitSteps
 pub mod NodeSteps
+pub mod StrokeSteps
+pub mod TargetForms
+pub mod MemberSteps
 pub mod LabelSteps
+pub mod BodyForms
+pub mod BodySteps

@@ -105,12 +105,12 @@ pub mixed_next : {all : Build Run} {old now : List Numbered} (bits : List ℕ) (
     → IsLeft all old now (mixed bits choice a b >>= k) → IsLeft all old now (mixed bits choice x y >>= k)
 mixed_next {all} {old} {now} bits choice x y a b k one other left = subst (λ (m : Build (List ℕ)). IsLeft all old now (m >>= k)) (mixed_alike bits choice x y a b one other) left
 
-pub chosen_left : (net : List Numbered) (bits : List ℕ) (choice : ℕ) (one other : Run) (x y : List ℕ) → x ≡ one.now → y ≡ other.now
-    → IsLeft (chosen bits choice one other) net net (mixed bits choice x y >>= (λ now. mixed bits choice one.next other.next >>= (λ next. return (record { now = now; next = next }))))
+pub chosen_left : (net : List Numbered) (reads bits : List ℕ) (choice : ℕ) (one other : Run) (x y : List ℕ) → x ≡ one.now → y ≡ other.now
+    → IsLeft (chosen reads bits choice one other) net net (mixed reads choice x y >>= (λ now. mixed bits choice one.next other.next >>= (λ next. return (record { now = now; next = next }))))
 unfolding chosen
-chosen_left net bits choice one other x y first second =
-    mixed_next bits choice x y one.now other.now (λ now. mixed bits choice one.next other.next >>= (λ next. return (record { now = now; next = next }))) first second
-    (all_left (mixed bits choice one.now other.now >>= (λ now. mixed bits choice one.next other.next >>= (λ next. return (record { now = now; next = next })))) net)
+chosen_left net reads bits choice one other x y first second =
+    mixed_next reads choice x y one.now other.now (λ now. mixed bits choice one.next other.next >>= (λ next. return (record { now = now; next = next }))) first second
+    (all_left (mixed reads choice one.now other.now >>= (λ now. mixed bits choice one.next other.next >>= (λ next. return (record { now = now; next = next })))) net)
 
 -- both lists as they are kept
 pub returned : {all : Build Run} {old now : List Numbered} (a b x y : List ℕ) → x ≡ a → y ≡ b → IsLeft all old now (return (record { now = a; next = b })) → IsLeft all old now (return (record { now = x; next = y }))
@@ -123,29 +123,29 @@ pub struck_alike : {all : Build Run} {old now : List Numbered} (bits : List ℕ)
     → IsLeft all old now (struck bits ks a >>= k) → IsLeft all old now (struck bits ks x >>= k)
 struck_alike {all} {old} {now} bits ks x a k same left = subst (λ (m : List ℕ). IsLeft all old now (struck bits ks m >>= k)) (sym same) left
 
-pub blocking_left : (net : List Numbered) (bits : List ℕ) (by : Assigns) (ks : List Stroke) (r : Run) (x : List ℕ) → by ≡ Blocking → x ≡ r.next
-    → IsLeft (written bits by ks r) net net (struck bits ks x >>= (λ next. struck bits ks r.now >>= (λ now. return (record { now = now; next = next }))))
+pub blocking_left : (net : List Numbered) (reads bits : List ℕ) (by : Assigns) (ks : List Stroke) (r : Run) (x : List ℕ) → by ≡ Blocking → x ≡ r.next
+    → IsLeft (written reads bits by ks r) net net (struck bits ks x >>= (λ next. struck reads ks r.now >>= (λ now. return (record { now = now; next = next }))))
 unfolding written
-blocking_left net bits by ks r x is same =
-    subst (λ (b : Assigns). IsLeft (written bits b ks r) net net (struck bits ks x >>= (λ next. struck bits ks r.now >>= (λ now. return (record { now = now; next = next }))))) (sym is)
-    (struck_alike bits ks x r.next (λ next. struck bits ks r.now >>= (λ now. return (record { now = now; next = next }))) same
-    (all_left (struck bits ks r.next >>= (λ next. struck bits ks r.now >>= (λ now. return (record { now = now; next = next })))) net))
+blocking_left net reads bits by ks r x is same =
+    subst (λ (b : Assigns). IsLeft (written reads bits b ks r) net net (struck bits ks x >>= (λ next. struck reads ks r.now >>= (λ now. return (record { now = now; next = next }))))) (sym is)
+    (struck_alike bits ks x r.next (λ next. struck reads ks r.now >>= (λ now. return (record { now = now; next = next }))) same
+    (all_left (struck bits ks r.next >>= (λ next. struck reads ks r.now >>= (λ now. return (record { now = now; next = next })))) net))
 
-pub nonblocking_left : (net : List Numbered) (bits : List ℕ) (by : Assigns) (ks : List Stroke) (r : Run) (x : List ℕ) → by ≡ Nonblocking → x ≡ r.next
-    → IsLeft (written bits by ks r) net net (struck bits ks x >>= (λ next. return (record { now = r.now; next = next })))
+pub nonblocking_left : (net : List Numbered) (reads bits : List ℕ) (by : Assigns) (ks : List Stroke) (r : Run) (x : List ℕ) → by ≡ Nonblocking → x ≡ r.next
+    → IsLeft (written reads bits by ks r) net net (struck bits ks x >>= (λ next. return (record { now = r.now; next = next })))
 unfolding written
-nonblocking_left net bits by ks r x is same =
-    subst (λ (b : Assigns). IsLeft (written bits b ks r) net net (struck bits ks x >>= (λ next. return (record { now = r.now; next = next })))) (sym is)
+nonblocking_left net reads bits by ks r x is same =
+    subst (λ (b : Assigns). IsLeft (written reads bits b ks r) net net (struck bits ks x >>= (λ next. return (record { now = r.now; next = next })))) (sym is)
     (struck_alike bits ks x r.next (λ next. return (record { now = r.now; next = next })) same
     (all_left (struck bits ks r.next >>= (λ next. return (record { now = r.now; next = next }))) net))
 
 -- what follows the first strokes
 unfoldable pub behind_strokes : List ℕ → Assigns → List Stroke → Run → List ℕ → Build Run
-behind_strokes bits Blocking ks r next = struck bits ks r.now >>= (λ now. return (record { now = now; next = next }))
-behind_strokes bits Nonblocking ks r next = return (record { now = r.now; next = next })
+behind_strokes reads Blocking ks r next = struck reads ks r.now >>= (λ now. return (record { now = now; next = next }))
+behind_strokes reads Nonblocking ks r next = return (record { now = r.now; next = next })
 
-pub strike_left : (net : List Numbered) (bits : List ℕ) (by : Assigns) (ks : List Stroke) (r : Run) (x : List ℕ) → x ≡ r.next
-    → IsLeft (written bits by ks r) net net (struck bits ks x >>= behind_strokes bits by ks r)
+pub strike_left : (net : List Numbered) (reads bits : List ℕ) (by : Assigns) (ks : List Stroke) (r : Run) (x : List ℕ) → x ≡ r.next
+    → IsLeft (written reads bits by ks r) net net (struck bits ks x >>= behind_strokes reads by ks r)
 unfolding behind_strokes
-strike_left net bits Blocking ks r x same = blocking_left net bits Blocking ks r x refl same
-strike_left net bits Nonblocking ks r x same = nonblocking_left net bits Nonblocking ks r x refl same
+strike_left net reads bits Blocking ks r x same = blocking_left net reads bits Blocking ks r x refl same
+strike_left net reads bits Nonblocking ks r x same = nonblocking_left net reads bits Nonblocking ks r x refl same

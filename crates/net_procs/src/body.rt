@@ -263,10 +263,10 @@ pub fn draw(
     alloc: Global,
     net: &mut GateList,
     design: &Design,
+    nodes: &[Node],
     reads: &[u32],
     bits: &[u32],
     body: &Stmt,
-    nodes: &[Node],
 ) -> Result<Vec<Node>, GateFault>
     requires has { HasNodes design.now nodes.now }
     requires reads { AreBits reads.now nodes.now }

@@ -1,0 +1,131 @@
+-- Serves src/body.rt: statements in order, and items of a `case` from the last one up.
+use Rattle.std.proofs.Common.{◌≡◌, ℕ, zero, suc, ◌+◌, ◌-◌, ◌<◌, ◌≤◌, Bool, true, false, if◌then◌else◌, List, [], ◌∷◌, length, map, drop, get_or, Option, Some, None, slice_get, refl, sym, ap, subst, ◌∙◌, arith}
+use Rattle.std.specs.Option.{option_map}
+use Rattle.std.proofs.lemmas.List.{drop_all, drop_more}
+use Rattle.std.proofs.lemmas.Option.{slice_get_read, slice_get_past, slice_get-map}
+use Rattle.vlog_tree.specs.declared.expr.Expr.{Expr}
+use Rattle.vlog_tree.specs.declared.stmt.Arm.{Arm}
+use Rattle.vlog_tree.specs.declared.stmt.Stmt.{Stmt}
+use Rattle.net_view.specs.View.{Numbered}
+use Rattle.net_words.specs.Builds.{Build, ◌>>=◌, return}
+use Rattle.net_words.proofs.BuildLemmas.{IsLeft, all_left}
+use Rattle.proc_values.specs.Cases.{is_at, with_body}
+use Rattle.net_procs.specs.Runs.{Run, Step}
+use Rattle.net_procs.specs.Cases.{item, item_if, chain, body_in, body_at}
+use Rattle.net_procs.specs.Bodies.{in_order}
+use Rattle.net_procs.proofs.Steps.{steps_through, step_alone, left_as, given, down}
+
+-- ---- statements in order
+
+pub order_here : {all : Build Run} {old now : List Numbered} (f : Stmt → Step) (ss : List Stmt) (i : ℕ) (s : Stmt) (r : Run) → i < length ss → s ≡ get_or ss i s
+    → IsLeft all old now (in_order (map f (drop i ss)) r) → IsLeft all old now (f s r >>= (λ next. in_order (map f (drop (i + 1) ss)) next))
+unfolding in_order
+order_here {all} {old} {now} f ss i s r inside is left =
+    subst (λ (l : List Stmt). IsLeft all old now (in_order (map f l) r)) (drop_more ss i s inside ∙ ap (λ (x : Stmt). x ∷ drop (i + 1) ss) (sym is)) left
+
+pub order_whole : {all : Build Run} {old now : List Numbered} (f : Stmt → Step) (ss : List Stmt) (i : ℕ) (r : Run) → length ss ≤ i → IsLeft all old now (in_order (map f (drop i ss)) r) → IsLeft all old now (return r)
+unfolding in_order
+order_whole {all} {old} {now} f ss i r past left = subst (λ (l : List Stmt). IsLeft all old now (in_order (map f l) r)) (drop_all i ss past) left
+
+-- ---- the item that stands for the default
+
+pub none_stands : (at : Option ℕ) (arms : List (Arm Step)) (r : Run) → at ≡ None → return r ≡ body_at at arms r
+unfolding body_at
+none_stands at arms r none = ap (λ (o : Option ℕ). body_at o arms r) (sym none)
+
+pub stands_past : (f : Stmt → Step) (at : Option ℕ) (i : ℕ) (arms : List (Arm Stmt)) (r : Run) → at ≡ Some i → length arms ≤ i → return r ≡ body_at at (map (with_body f) arms) r
+unfolding body_at body_in
+stands_past f at i arms r is past =
+    ap (λ (o : Option (Arm Step)). body_in o r) (sym (slice_get-map (with_body f) arms i ∙ ap (option_map (with_body f)) (slice_get_past arms i past)))
+    ∙ ap (λ (o : Option ℕ). body_at o (map (with_body f) arms) r) (sym is)
+
+pub stands : (f : Stmt → Step) (at : Option ℕ) (i : ℕ) (arms : List (Arm Stmt)) (arm : Arm Stmt) (body : Stmt) (r : Run) → at ≡ Some i → i < length arms → arm ≡ get_or arms i arm → body ≡ arm.body
+    → f body r ≡ body_at at (map (with_body f) arms) r
+unfolding body_at body_in
+stands f at i arms arm body r is inside here same =
+    ap (λ (b : Stmt). f b r) same
+    ∙ ap (λ (o : Option (Arm Step)). body_in o r) (sym (slice_get-map (with_body f) arms i ∙ ap (option_map (with_body f)) (slice_get_read arms (length arms) i arm refl inside here)))
+    ∙ ap (λ (o : Option ℕ). body_at o (map (with_body f) arms) r) (sym is)
+
+-- ---- items from the last one up
+
+module _ (reads bits : List ℕ) (hit : List Expr → Build ℕ) (at : Option ℕ) (f : Stmt → Step) (arms : List (Arm Stmt)) (r : Run) where
+  one_item : ℕ → Option (Arm Stmt) → Run → Build Run
+  one_item i None rest = return rest
+  one_item i (Some arm) rest = item_if reads bits hit at i (with_body f arm) r rest
+
+  -- item i before what comes behind it
+  pub item_on : ℕ → Run → Build Run
+  item_on i rest = one_item i (slice_get arms i) rest
+
+  item_is : (i : ℕ) (arm : Arm Stmt) (rest : Run) → i < length arms → arm ≡ get_or arms i arm → item_on i rest ≡ item_if reads bits hit at i (with_body f arm) r rest
+  item_is i arm rest inside is = ap (λ (o : Option (Arm Stmt)). one_item i o rest) (slice_get_read arms (length arms) i arm refl inside is)
+
+  from_item : Step → ℕ → Build Run
+  from_item other n = chain reads bits hit at n (map (with_body f) (drop n arms)) other r
+
+  one_above : (other : Step) (n : ℕ) (arm : Arm Stmt) → n < length arms → arm ≡ get_or arms n arm → from_item other n ≡ (from_item other (suc n) >>= item_on n)
+  unfolding chain
+  one_above other n arm inside is =
+      ap (λ (l : List (Arm Stmt)). chain reads bits hit at n (map (with_body f) l) other r) (drop_more arms n arm inside ∙ (λ k. sym is k ∷ drop (step k) arms))
+      ∙ ap (λ (m : ℕ). chain reads bits hit at m (map (with_body f) (drop (suc n) arms)) other r >>= (λ rest. item_if reads bits hit at n (with_body f arm) r rest)) step
+      ∙ ap (λ (g : Run → Build Run). from_item other (suc n) >>= g) (λ k rest. sym (item_is n arm rest inside is) k)
+    where
+      step : n + 1 ≡ suc n
+      step = omega arith
+
+  same_default : (l : List (Arm Stmt)) (k : ℕ) (m : Arm Stmt) → k < length l → get_or l k m ≡ get_or l k (get_or l k m)
+  same_default [] k m lt = absurd (omega (arith, lt))
+  same_default (x ∷ l) zero m lt = refl
+  same_default (x ∷ l) (suc k) m lt = same_default l k m (omega (arith, lt))
+
+  at_item : (other : Step) (n : ℕ) (l : List (Arm Stmt)) → l ≡ arms → n < length arms → from_item other n ≡ (from_item other (suc n) >>= item_on n)
+  at_item other n [] is lt = absurd (omega (arith, lt, ap length is))
+  at_item other n (m ∷ l) is lt = one_above other n (get_or arms n m) lt (same_default arms n m lt)
+
+  items_above : (other : Step) (n : ℕ) → n ≤ length arms → from_item other 0 ≡ (from_item other n >>= down item_on n)
+  items_above other zero inside = sym (step_alone (from_item other 0))
+  items_above other (suc n) inside =
+      items_above other n (omega (arith, inside))
+      ∙ ap (λ (b : Build Run). b >>= down item_on n) (at_item other n arms refl (omega (arith, inside)))
+      ∙ steps_through (from_item other (suc n)) (item_on n) (down item_on n)
+
+  behind_items : (other : Step) → from_item other (length arms) ≡ other r
+  unfolding chain
+  behind_items other = ap (λ (l : List (Arm Stmt)). chain reads bits hit at (length arms) (map (with_body f) l) other r) (drop_all (length arms) arms (omega arith))
+
+  pub items_first : (net : List Numbered) (other : Step) → IsLeft (chain reads bits hit at 0 (map (with_body f) arms) other r) net net (other r >>= down item_on (length arms))
+  items_first net other =
+      left_as (from_item other 0) (other r >>= down item_on (length arms))
+      (items_above other (length arms) (omega arith) ∙ ap (λ (b : Build Run). b >>= down item_on (length arms)) (behind_items other))
+      (all_left (from_item other 0) net)
+
+  here : (i left : ℕ) (arm : Arm Stmt) (rest : Run) → left ≡ i + 1 → left ≤ length arms → arm ≡ get_or arms i arm → down item_on left rest ≡ (item_if reads bits hit at i (with_body f arm) r rest >>= down item_on i)
+  here i left arm rest step inside is =
+      ap (λ (n : ℕ). down item_on n rest) (next i left step) ∙ ap (λ (b : Build Run). b >>= down item_on i) (item_is i arm rest (omega (arith, step, inside)) is)
+    where
+      next : (i left : ℕ) → left ≡ i + 1 → left ≡ suc i
+      next i left step = omega (arith, step)
+
+  pub item_here : {all : Build Run} {old now : List Numbered} (i left : ℕ) (arm : Arm Stmt) (labels : List Expr) (body : Stmt) (rest : Run) → left ≡ i + 1 → left ≤ length arms → arm ≡ get_or arms i arm → labels ≡ arm.labels → body ≡ arm.body
+      → is_at at i ≡ false → IsLeft all old now (down item_on left rest) → IsLeft all old now (item reads bits (hit labels) (f body) r rest >>= down item_on i)
+  item_here {all} {old} {now} i left arm labels body rest step inside is labels-are body-is other left_over =
+      left_as (down item_on left rest) (item reads bits (hit labels) (f body) r rest >>= down item_on i)
+      (here i left arm rest step inside is
+      ∙ ap (λ (b : Bool). (if b then return rest else item reads bits (hit arm.labels) (f arm.body) r rest) >>= down item_on i) other
+      ∙ (λ k. item reads bits (hit (sym labels-are k)) (f (sym body-is k)) r rest >>= down item_on i))
+      left_over
+
+  pub item_skipped : {all : Build Run} {old now : List Numbered} (i left : ℕ) (arm : Arm Stmt) (rest : Run) → left ≡ i + 1 → left ≤ length arms → arm ≡ get_or arms i arm → is_at at i ≡ true
+      → IsLeft all old now (down item_on left rest) → IsLeft all old now (down item_on i rest)
+  item_skipped {all} {old} {now} i left arm rest step inside is stands-at left_over =
+      given rest (down item_on i)
+      (left_as (down item_on left rest) (return rest >>= down item_on i)
+      (here i left arm rest step inside is ∙ ap (λ (b : Bool). (if b then return rest else item reads bits (hit arm.labels) (f arm.body) r rest) >>= down item_on i) stands-at)
+      left_over)
+
+  pub items_whole : {all : Build Run} {old now : List Numbered} (left : ℕ) (rest : Run) → left ≤ 0 → IsLeft all old now (down item_on left rest) → IsLeft all old now (return rest)
+  items_whole {all} {old} {now} left rest none left_over = subst (λ (n : ℕ). IsLeft all old now (down item_on n rest)) (zero_is left none) left_over
+    where
+      zero_is : (n : ℕ) → n ≤ 0 → n ≡ zero
+      zero_is n none = omega (arith, none)
