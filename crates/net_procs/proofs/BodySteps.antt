@@ -13,7 +13,7 @@ use Rattle.proc_values.specs.Cases.{is_at, with_body}
 use Rattle.net_procs.specs.Runs.{Run, Step}
 use Rattle.net_procs.specs.Cases.{item, item_if, chain, body_in, body_at}
 use Rattle.net_procs.specs.Bodies.{in_order}
-use Rattle.net_procs.proofs.Steps.{steps_through, step_alone, left_as, given, down}
+use Rattle.net_procs.proofs.Steps.{steps_through, step_alone, left_as, given, there_is, down}
 
 -- ---- statements in order
 
@@ -50,18 +50,18 @@ stands f at i arms arm body r is inside here same =
 -- ---- items from the last one up
 
 module _ (reads bits : List ℕ) (hit : List Expr → Build ℕ) (at : Option ℕ) (f : Stmt → Step) (arms : List (Arm Stmt)) (r : Run) where
-  one_item : ℕ → Option (Arm Stmt) → Run → Build Run
+  abbrev one_item : ℕ → Option (Arm Stmt) → Run → Build Run
   one_item i None rest = return rest
   one_item i (Some arm) rest = item_if reads bits hit at i (with_body f arm) r rest
 
   -- item i before what comes behind it
-  pub item_on : ℕ → Run → Build Run
+  abbrev pub item_on : ℕ → Run → Build Run
   item_on i rest = one_item i (slice_get arms i) rest
 
   item_is : (i : ℕ) (arm : Arm Stmt) (rest : Run) → i < length arms → arm ≡ get_or arms i arm → item_on i rest ≡ item_if reads bits hit at i (with_body f arm) r rest
   item_is i arm rest inside is = ap (λ (o : Option (Arm Stmt)). one_item i o rest) (slice_get_read arms (length arms) i arm refl inside is)
 
-  from_item : Step → ℕ → Build Run
+  abbrev from_item : Step → ℕ → Build Run
   from_item other n = chain reads bits hit at n (map (with_body f) (drop n arms)) other r
 
   one_above : (other : Step) (n : ℕ) (arm : Arm Stmt) → n < length arms → arm ≡ get_or arms n arm → from_item other n ≡ (from_item other (suc n) >>= item_on n)
@@ -74,16 +74,12 @@ module _ (reads bits : List ℕ) (hit : List Expr → Build ℕ) (at : Option �
       step : n + 1 ≡ suc n
       step = omega arith
 
-  same_default : (l : List (Arm Stmt)) (k : ℕ) (m : Arm Stmt) → k < length l → get_or l k m ≡ get_or l k (get_or l k m)
-  same_default [] k m lt = absurd (omega (arith, lt))
-  same_default (x ∷ l) zero m lt = refl
-  same_default (x ∷ l) (suc k) m lt = same_default l k m (omega (arith, lt))
-
   at_item : (other : Step) (n : ℕ) (l : List (Arm Stmt)) → l ≡ arms → n < length arms → from_item other n ≡ (from_item other (suc n) >>= item_on n)
   at_item other n [] is lt = absurd (omega (arith, lt, ap length is))
-  at_item other n (m ∷ l) is lt = one_above other n (get_or arms n m) lt (same_default arms n m lt)
+  at_item other n (m ∷ l) is lt = one_above other n (get_or arms n m) lt (there_is arms n m lt)
 
   items_above : (other : Step) (n : ℕ) → n ≤ length arms → from_item other 0 ≡ (from_item other n >>= down item_on n)
+  unfolding down
   items_above other zero inside = sym (step_alone (from_item other 0))
   items_above other (suc n) inside =
       items_above other n (omega (arith, inside))
@@ -101,6 +97,7 @@ module _ (reads bits : List ℕ) (hit : List Expr → Build ℕ) (at : Option �
       (all_left (from_item other 0) net)
 
   here : (i left : ℕ) (arm : Arm Stmt) (rest : Run) → left ≡ i + 1 → left ≤ length arms → arm ≡ get_or arms i arm → down item_on left rest ≡ (item_if reads bits hit at i (with_body f arm) r rest >>= down item_on i)
+  unfolding down
   here i left arm rest step inside is =
       ap (λ (n : ℕ). down item_on n rest) (next i left step) ∙ ap (λ (b : Build Run). b >>= down item_on i) (item_is i arm rest (omega (arith, step, inside)) is)
     where
@@ -125,6 +122,7 @@ module _ (reads bits : List ℕ) (hit : List Expr → Build ℕ) (at : Option �
       left_over)
 
   pub items_whole : {all : Build Run} {old now : List Numbered} (left : ℕ) (rest : Run) → left ≤ 0 → IsLeft all old now (down item_on left rest) → IsLeft all old now (return rest)
+  unfolding down
   items_whole {all} {old} {now} left rest none left_over = subst (λ (n : ℕ). IsLeft all old now (down item_on n rest)) (zero_is left none) left_over
     where
       zero_is : (n : ℕ) → n ≤ 0 → n ≡ zero

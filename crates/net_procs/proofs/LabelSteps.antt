@@ -1,13 +1,17 @@
 -- Serves labels: what is left is one bit and the others, or nothing.
 use Rattle.std.proofs.Common.{◌≡◌, ℕ, zero, suc, ◌+◌, ◌<◌, ◌≤◌, Bool, true, false, List, [], ◌∷◌, ◌++◌, length, drop, get_or, refl, sym, ap, subst, ◌∙◌, add-one}
-use Rattle.std.proofs.lemmas.List.{drop_all}
+use Rattle.std.proofs.lemmas.List.{drop_all, drop_more}
 use Rattle.net_view.specs.View.{Numbered}
 use Rattle.net_words.specs.declared.bits.Bitwise.TheVariants as op
 use Rattle.net_words.specs.Builds.{Build, ◌>>=◌, return}
 use Rattle.net_words.specs.Bits.{bit}
 use Rattle.net_words.proofs.BuildLemmas.{IsLeft, behind, bit_first, all_bits}
 use Rattle.net_words.proofs.WordSteps.{drop_here}
-use Rattle.net_procs.specs.Labels.{same_at}
+use Rattle.vlog_tree.specs.declared.expr.Expr.{Expr}
+use Rattle.vlog_tree.specs.declared.stmt.Matching.{Matching}
+use Rattle.vlog_const.specs.declared.shape.Shape.{Shape}
+use Rattle.design_form.specs.declared.parts.Parts.{Parts}
+use Rattle.net_procs.specs.Labels.{same_at, label_hit, label_hits}
 
 -- the flags behind the first one
 abbrev behind_one : List Bool → List Bool
@@ -70,3 +74,18 @@ none_left free y = refl
 pub same_whole : {all : Build (List ℕ)} {old now : List Numbered} (free : List Bool) (x y made : List ℕ) (i : ℕ) → length x ≤ i → IsLeft all old now (behind made (same_at (drop i free) (drop i x) (drop i y))) → IsLeft all old now (return made)
 same_whole {all} {old} {now} free x y made i past left =
     all_bits made (subst (λ (m : Build (List ℕ)). IsLeft all old now (behind made m)) (ap (λ (w : List ℕ). same_at (drop i free) w (drop i y)) (drop_all i x past) ∙ none_left (drop i free) (drop i y)) left)
+
+-- ---- labels
+
+pub hits_here : {all : Build (List ℕ)} {old now : List Numbered} (d : Parts) (nodes : List ℕ) (how : Matching) (c : Shape) (selector : List ℕ) (es : List Expr) (i : ℕ) (e : Expr) (made : List ℕ) → i < length es → e ≡ get_or es i e
+    → IsLeft all old now (behind made (label_hits d nodes how c selector (drop i es))) → IsLeft all old now (label_hit d nodes how c selector e >>= (λ h. behind (made ++ h ∷ []) (label_hits d nodes how c selector (drop (i + 1) es))))
+unfolding label_hits
+hits_here {all} {old} {now} d nodes how c selector es i e made inside is left =
+    bit_first made (label_hit d nodes how c selector e) (λ h. h) (λ h. label_hits d nodes how c selector (drop (i + 1) es))
+    (subst (λ (l : List Expr). IsLeft all old now (behind made (label_hits d nodes how c selector l))) (drop_more es i e inside ∙ ap (λ (x : Expr). x ∷ drop (i + 1) es) (sym is)) left)
+
+pub hits_whole : {all : Build (List ℕ)} {old now : List Numbered} (d : Parts) (nodes : List ℕ) (how : Matching) (c : Shape) (selector : List ℕ) (es : List Expr) (i : ℕ) (made : List ℕ) → length es ≤ i
+    → IsLeft all old now (behind made (label_hits d nodes how c selector (drop i es))) → IsLeft all old now (return made)
+unfolding label_hits
+hits_whole {all} {old} {now} d nodes how c selector es i made past left =
+    all_bits made (subst (λ (l : List Expr). IsLeft all old now (behind made (label_hits d nodes how c selector l))) (drop_all i es past) left)

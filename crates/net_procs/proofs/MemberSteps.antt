@@ -10,7 +10,7 @@ use Rattle.net_words.specs.Builds.{Build, ◌>>=◌, return}
 use Rattle.net_words.proofs.BuildLemmas.{IsLeft, all_left}
 use Rattle.net_procs.specs.declared.stroke.Stroke.{Stroke}
 use Rattle.net_procs.specs.Targets.{Written, strokes, onto_members, widths}
-use Rattle.net_procs.proofs.Steps.{steps_through, step_alone, no_step, left_as, given, inner, down}
+use Rattle.net_procs.proofs.Steps.{steps_through, step_alone, no_step, left_as, given, inner, there_is, down}
 
 abbrev pub beside : Parts → List ℕ → List Expr → List (Expr × Written)
 beside d nodes es = map (λ e. (e, strokes d nodes e)) es
@@ -19,12 +19,12 @@ left_here : (es : List Expr) (at left : ℕ) (m : Expr) → left ≡ at + 1 → 
 left_here es at left m step inside is = drop_more es at m (omega (arith, step, inside)) ∙ (λ k. sym is k ∷ drop (sym step k) es)
 
 -- a member behind strokes that are drawn
-onto_one : Parts → List ℕ → Option Expr → List ℕ → List Stroke → Build (List Stroke)
+abbrev onto_one : Parts → List ℕ → Option Expr → List ℕ → List Stroke → Build (List Stroke)
 onto_one d nodes None w ks = return ks
 onto_one d nodes (Some m) w ks = strokes d nodes m w >>= (λ top. return (ks ++ top))
 
 -- member i
-pub member_on : Parts → List ℕ → List Expr → List ℕ → ℕ → List Stroke → Build (List Stroke)
+abbrev pub member_on : Parts → List ℕ → List Expr → List ℕ → ℕ → List Stroke → Build (List Stroke)
 member_on d nodes es w i ks = onto_one d nodes (slice_get es i) (drop (widths d (beside d nodes (drop (suc i) es))) w) ks
 
 member_is : (d : Parts) (nodes : List ℕ) (es : List Expr) (w : List ℕ) (i : ℕ) (m : Expr) (ks : List Stroke) → i < length es → m ≡ get_or es i m
@@ -39,20 +39,16 @@ one_above d nodes es w n m inside is =
     ∙ ap (λ (f : List Stroke → Build (List Stroke)). onto_members d (beside d nodes (drop (suc n) es)) w >>= f) (λ k ks. sym (member_is d nodes es w n m ks inside is) k)
 
 members_above : (d : Parts) (nodes : List ℕ) (es : List Expr) (w : List ℕ) (n : ℕ) → n ≤ length es → onto_members d (beside d nodes es) w ≡ (onto_members d (beside d nodes (drop n es)) w >>= down (member_on d nodes es w) n)
+unfolding down
 members_above d nodes es w zero inside = sym (step_alone (onto_members d (beside d nodes es) w))
 members_above d nodes es w (suc n) inside =
     members_above d nodes es w n (omega (arith, inside))
-    ∙ ap (λ (b : Build (List Stroke)). b >>= down (member_on d nodes es w) n) (at_member es n (omega (arith, inside)))
+    ∙ ap (λ (b : Build (List Stroke)). b >>= down (member_on d nodes es w) n) (at_member es n refl (omega (arith, inside)))
     ∙ steps_through (onto_members d (beside d nodes (drop (suc n) es)) w) (member_on d nodes es w n) (down (member_on d nodes es w) n)
   where
-    at_member : (l : List Expr) (k : ℕ) → k < length l → onto_members d (beside d nodes (drop n es)) w ≡ (onto_members d (beside d nodes (drop (suc n) es)) w >>= member_on d nodes es w n)
-    at_member [] k lt = absurd (omega (arith, lt))
-    at_member (m ∷ l) k lt = one_above d nodes es w n (get_or es n m) (omega (arith, inside)) (same_default es n m (omega (arith, inside)))
-
-    same_default : (l : List Expr) (k : ℕ) (m : Expr) → k < length l → get_or l k m ≡ get_or l k (get_or l k m)
-    same_default [] k m lt = absurd (omega (arith, lt))
-    same_default (x ∷ l) zero m lt = refl
-    same_default (x ∷ l) (suc k) m lt = same_default l k m (omega (arith, lt))
+    at_member : (l : List Expr) (k : ℕ) → l ≡ es → k < length l → onto_members d (beside d nodes (drop n es)) w ≡ (onto_members d (beside d nodes (drop (suc n) es)) w >>= member_on d nodes es w n)
+    at_member [] k is lt = absurd (omega (arith, lt))
+    at_member (m ∷ l) k is lt = one_above d nodes es w n (get_or es n m) (omega (arith, inside)) (there_is es n m (omega (arith, inside)))
 
 none_left : (d : Parts) (nodes : List ℕ) (es : List Expr) (w : List ℕ) → onto_members d (beside d nodes (drop (length es) es)) w ≡ return []
 unfolding onto_members
@@ -68,6 +64,7 @@ members_first net d nodes es w =
 pub members_here : {all : Build (List Stroke)} {old now : List Numbered} (d : Parts) (nodes : List ℕ) (es : List Expr) (w rest : List ℕ) (at left below : ℕ) (m : Expr) (ks : List Stroke) → left ≡ at + 1 → left ≤ length es → m ≡ get_or es at m
     → below ≡ widths d (beside d nodes (drop left es)) → rest ≡ drop below w → IsLeft all old now (down (member_on d nodes es w) left ks)
     → IsLeft all old now (strokes d nodes m rest >>= (λ top. down (member_on d nodes es w) at (ks ++ top)))
+unfolding down
 members_here {all} {old} {now} d nodes es w rest at left below m ks step inside is wide behind found =
     let next : left ≡ suc at = omega (arith, step) in
     let here : drop (widths d (beside d nodes (drop (suc at) es))) w ≡ rest = sym (behind ∙ ap (λ (b : ℕ). drop b w) (wide ∙ ap (λ (n : ℕ). widths d (beside d nodes (drop n es))) next)) in
@@ -80,6 +77,7 @@ members_here {all} {old} {now} d nodes es w rest at left below m ks step inside 
     found))
 
 pub members_whole : {all : Build (List Stroke)} {old now : List Numbered} (d : Parts) (nodes : List ℕ) (es : List Expr) (w : List ℕ) (left : ℕ) (ks : List Stroke) → left ≤ 0 → IsLeft all old now (down (member_on d nodes es w) left ks) → IsLeft all old now (return ks)
+unfolding down
 members_whole {all} {old} {now} d nodes es w left ks none found = subst (λ (n : ℕ). IsLeft all old now (down (member_on d nodes es w) n ks)) (omega (arith, none)) found
 
 -- ---- widths

@@ -1,5 +1,5 @@
 -- Serves calls that draw: steps that draw nothing, steps that are made of steps, and what is the same.
-use Rattle.std.proofs.Common.{◌≡◌, ℕ, zero, suc, List, Option, Some, None, Result, Ok, Err, IfOk, IfErr, refl, sym, ap, subst, ◌∙◌}
+use Rattle.std.proofs.Common.{◌≡◌, ℕ, zero, suc, ◌<◌, List, [], ◌∷◌, length, get_or, arith, Option, Some, None, Result, Ok, Err, IfOk, IfErr, refl, sym, ap, subst, ◌∙◌}
 use Rattle.net_view.specs.View.{Numbered}
 use Rattle.net_gates.specs.declared.fault.GateFault.{GateFault}
 use Rattle.net_gates.specs.declared.fault.GateFault.TheVariants.{Memory}
@@ -43,12 +43,18 @@ inner b k h left = left_as ((b >>= k) >>= h) (b >>= (λ x. k x >>= h)) (steps_th
 -- ---- calls that draw nothing
 
 pub nothing_drawn : {A X : Type 0} (f : A → X) (x : X) (net : List Numbered) (r : Result A GateFault) → IfOk r (λ a. f a ≡ x) → IfErr r (λ e. e ≡ Memory) → Builds f (return x) net r net
-nothing_drawn f x net (Ok a) is no = done f a (subst (λ (y : _). IsLeft (return x) net net (return y)) (sym is) (all_left (return x) net))
-nothing_drawn f x net (Err e) is no = record { front = begins_itself net; answers = subst (λ (z : GateFault). Answers f (return x) net (Err z) net) (sym no) tt }
+nothing_drawn f x net (Ok a) is memory = done f a (subst (λ (y : _). IsLeft (return x) net net (return y)) (sym is) (all_left (return x) net))
+nothing_drawn f x net (Err e) is memory = record { front = begins_itself net; answers = subst (λ (z : GateFault). Answers f (return x) net (Err z) net) (sym memory) tt }
 
 -- ---- steps counted down
 
+-- an element is there, whatever stands for one that isn't
+pub there_is : {A : Type 0} (l : List A) (k : ℕ) (m : A) → k < length l → get_or l k m ≡ get_or l k (get_or l k m)
+there_is [] k m lt = absurd (omega (arith, lt))
+there_is (x ∷ l) zero m lt = refl
+there_is (x ∷ l) (suc k) m lt = there_is l k m (omega (arith, lt))
+
 -- the steps from number n - 1 down to 0
-pub down : {X : Type 0} → (ℕ → X → Build X) → ℕ → X → Build X
+unfoldable pub down : {X : Type 0} → (ℕ → X → Build X) → ℕ → X → Build X
 down f zero x = return x
 down f (suc n) x = f n x >>= down f n

@@ -8,6 +8,7 @@ use Rattle.rdc_tern.specs.declared.value.Tern.{Tern}
 use Rattle.rdc_tern.specs.declared.value.Tern.TheVariants.{One}
 use Rattle.design_form.specs.declared.signal.Bounds.{Bounds}
 use Rattle.design_form.specs.Signals.{lowest, width_of}
+use Rattle.net_words.proofs.WordSteps.{drop_here}
 use Rattle.proc_values.specs.declared.stroke.Stroke as values
 use Rattle.proc_values.specs.Targets as value
 use Rattle.proc_values.specs.Targets.{reached, fixed_start}
@@ -18,38 +19,38 @@ use Rattle.net_procs.specs.Targets.{onto, from_start, from_hit, from_starts, at_
 
 -- ---- what is left
 
-pub from_more : (h : Option ℕ) (r : Bounds) (ns : List ℕ) (n i j : ℕ) (w : List ℕ) (d : ℕ) (place : Option ℕ) (before after whole : List Stroke) → j < length w → place ≡ reached r ns n i j
-    → after ≡ before ++ onto h place (get_or w j d) → before ++ from_start h r ns n i j (drop j w) ≡ whole → after ++ from_start h r ns n i (j + 1) (drop (j + 1) w) ≡ whole
+pub from_more : (h : Option ℕ) (r : Bounds) (ns : List ℕ) (n i j : ℕ) (w : List ℕ) (v : ℕ) (place : Option ℕ) (before after whole : List Stroke) → j < length w → v ≡ get_or w j v → place ≡ reached r ns n i j
+    → after ≡ before ++ onto h place v → before ++ from_start h r ns n i j (drop j w) ≡ whole → after ++ from_start h r ns n i (j + 1) (drop (j + 1) w) ≡ whole
 unfolding from_start
-from_more h r ns n i j w d place before after whole lt is put left =
+from_more h r ns n i j w v place before after whole lt v-is is put left =
     let rest = from_start h r ns n i (j + 1) (drop (j + 1) w) in
-    ap (λ (ks : List Stroke). ks ++ rest) put ∙ append_assoc before (onto h place (get_or w j d)) rest
-    ∙ ap (λ (p : Option ℕ). before ++ (onto h p (get_or w j d) ++ rest)) is
-    ∙ ap (λ (u : List ℕ). before ++ from_start h r ns n i j u) (sym (drop_more w j d lt)) ∙ left
+    ap (λ (ks : List Stroke). ks ++ rest) put ∙ append_assoc before (onto h place v) rest
+    ∙ ap (λ (p : Option ℕ). before ++ (onto h p v ++ rest)) is
+    ∙ ap (λ (u : List ℕ). before ++ from_start h r ns n i j u) (sym (drop_here w j v lt v-is)) ∙ left
 
 pub from_end : (h : Option ℕ) (r : Bounds) (ns : List ℕ) (n i j : ℕ) (w : List ℕ) (before whole : List Stroke) → length w ≤ j → before ++ from_start h r ns n i j (drop j w) ≡ whole → before ≡ whole
 unfolding from_start
 from_end h r ns n i j w before whole past left = sym (append-nil before) ∙ ap (λ (u : List ℕ). before ++ from_start h r ns n i j u) (sym (drop_all j w past)) ∙ left
 
-pub starts_more : (hits : List (Option ℕ)) (r : Bounds) (ns : List ℕ) (n i : ℕ) (w : List ℕ) (d : Option ℕ) (before after whole : List Stroke) → i < length hits
-    → after ≡ before ++ from_hit (get_or hits i d) r ns n i w → before ++ from_starts (drop i hits) r ns n i w ≡ whole → after ++ from_starts (drop (i + 1) hits) r ns n (i + 1) w ≡ whole
+pub starts_more : (hits : List (Option ℕ)) (r : Bounds) (ns : List ℕ) (n i : ℕ) (w : List ℕ) (h : Option ℕ) (before after whole : List Stroke) → i < length hits → h ≡ get_or hits i h
+    → after ≡ before ++ from_hit h r ns n i w → before ++ from_starts (drop i hits) r ns n i w ≡ whole → after ++ from_starts (drop (i + 1) hits) r ns n (i + 1) w ≡ whole
 unfolding from_starts
-starts_more hits r ns n i w d before after whole lt put left =
+starts_more hits r ns n i w h before after whole lt h-is put left =
     let rest = from_starts (drop (i + 1) hits) r ns n (i + 1) w in
-    ap (λ (ks : List Stroke). ks ++ rest) put ∙ append_assoc before (from_hit (get_or hits i d) r ns n i w) rest
-    ∙ ap (λ (u : List (Option ℕ)). before ++ from_starts u r ns n i w) (sym (drop_more hits i d lt)) ∙ left
+    ap (λ (ks : List Stroke). ks ++ rest) put ∙ append_assoc before (from_hit h r ns n i w) rest
+    ∙ ap (λ (u : List (Option ℕ)). before ++ from_starts u r ns n i w) (sym (drop_more hits i h lt ∙ ap (λ (x : Option ℕ). x ∷ drop (i + 1) hits) (sym h-is))) ∙ left
 
 pub starts_end : (hits : List (Option ℕ)) (r : Bounds) (ns : List ℕ) (n i : ℕ) (w : List ℕ) (before whole : List Stroke) → length hits ≤ i → before ++ from_starts (drop i hits) r ns n i w ≡ whole → before ≡ whole
 unfolding from_starts
 starts_end hits r ns n i w before whole past left = sym (append-nil before) ∙ ap (λ (u : List (Option ℕ)). before ++ from_starts u r ns n i w) (sym (drop_all i hits past)) ∙ left
 
-pub all_more : (ns w : List ℕ) (i e d : ℕ) (before after whole : List Stroke) → i < length ns → i < length w
-    → after ≡ before ++ record { hit = None; bit = get_or ns i e; value = get_or w i d } ∷ [] → before ++ onto_all (drop i ns) (drop i w) ≡ whole → after ++ onto_all (drop (i + 1) ns) (drop (i + 1) w) ≡ whole
+pub all_more : (ns w : List ℕ) (i b v : ℕ) (before after whole : List Stroke) → i < length ns → i < length w → b ≡ get_or ns i b → v ≡ get_or w i v
+    → after ≡ before ++ record { hit = None; bit = b; value = v } ∷ [] → before ++ onto_all (drop i ns) (drop i w) ≡ whole → after ++ onto_all (drop (i + 1) ns) (drop (i + 1) w) ≡ whole
 unfolding onto_all
-all_more ns w i e d before after whole in_ns in_w put left =
+all_more ns w i b v before after whole in_ns in_w b-is v-is put left =
     let rest = onto_all (drop (i + 1) ns) (drop (i + 1) w) in
-    ap (λ (ks : List Stroke). ks ++ rest) put ∙ append_assoc before (record { hit = None; bit = get_or ns i e; value = get_or w i d } ∷ []) rest
-    ∙ (λ k. before ++ onto_all (sym (drop_more ns i e in_ns) k) (sym (drop_more w i d in_w) k)) ∙ left
+    ap (λ (ks : List Stroke). ks ++ rest) put ∙ append_assoc before (record { hit = None; bit = b; value = v } ∷ []) rest
+    ∙ (λ k. before ++ onto_all (sym (drop_here ns i b in_ns b-is) k) (sym (drop_here w i v in_w v-is) k)) ∙ left
 
 no_more : (ns w : List ℕ) → min (length ns) (length w) ≤ 0 → onto_all ns w ≡ []
 unfolding onto_all

@@ -13,7 +13,7 @@ ghost use Rattle.net_procs.specs.Ready.{run_of, Fits, IsChoice, step_of};
 use crate::frame::Frame;
 use crate::indices::is_full;
 use crate::labels::{Choice, any_hit, choice_of};
-use crate::wires::{Wires, chosen, copied, nodes_of};
+use crate::wires::{Wires, chosen, copied, copy_of, nodes_of};
 use crate::writes::{assign, tested};
 use design_form::Design;
 use net_gates::{GateFault, GateList, Node};
@@ -281,8 +281,8 @@ pub fn draw(
         reads,
         bits,
     };
-    let seen = nodes.to_vec(alloc)?;
-    let becomes = nodes.to_vec(alloc)?;
+    let seen = copy_of(alloc, nodes)?;
+    let becomes = copy_of(alloc, nodes)?;
     let after = run(alloc, net, &frame, body, Wires { seen, becomes })?;
     nodes_of(alloc, after.becomes.as_slice(), bits)
 }

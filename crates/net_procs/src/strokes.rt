@@ -32,7 +32,7 @@ fn put_onto(
 
 /// A word onto the select from one start.
 fn put_from(
-    hit: Option<Node>,
+    hit: &Option<Node>,
     select: Select,
     bits: &[u32],
     start: u128,
@@ -40,11 +40,11 @@ fn put_from(
     strokes: &mut Vec<Stroke>,
 ) -> Result<(), GateFault>
     requires start { start < 2 ^ 101 }
-    ensures items { OnOk result (strokes.new.items ≡ strokes.old.items ++ spec.from_start hit select.range bits.now select.width start 0 word.now) }
+    ensures items { OnOk result (strokes.new.items ≡ strokes.old.items ++ spec.from_start hit.now select.range bits.now select.width start 0 word.now) }
     ensures fault { IfErr result (λ fault. fault ≡ Memory) }
 {
     for j in 0..word.len() {
-        put_onto(hit, reached(select, bits, start, j), word[j], strokes)?;
+        put_onto(*hit, reached(select, bits, start, j), word[j], strokes)?;
     }
     Ok(())
 }
@@ -52,7 +52,7 @@ fn put_from(
 /// The same where the index can be the start.
 #[tactic(auto, unfolding(crate::specs::Targets::from_hit))]
 fn put_hit(
-    hit: Option<Node>,
+    hit: &Option<Node>,
     select: Select,
     bits: &[u32],
     start: u128,
@@ -60,7 +60,7 @@ fn put_hit(
     strokes: &mut Vec<Stroke>,
 ) -> Result<(), GateFault>
     requires start { start < 2 ^ 101 }
-    ensures items { OnOk result (strokes.new.items ≡ strokes.old.items ++ spec.from_hit hit select.range bits.now select.width start word.now) }
+    ensures items { OnOk result (strokes.new.items ≡ strokes.old.items ++ spec.from_hit hit.now select.range bits.now select.width start word.now) }
     ensures fault { IfErr result (λ fault. fault ≡ Memory) }
 {
     match hit {
@@ -82,7 +82,7 @@ pub(crate) fn onto_starts(
 {
     let mut strokes = Vec::new(alloc);
     for i in 0..hits.len() {
-        put_hit(hits[i], select, bits, i as u128, word, &mut strokes)?;
+        put_hit(&hits[i], select, bits, i as u128, word, &mut strokes)?;
     }
     Ok(strokes)
 }
@@ -147,7 +147,7 @@ pub(crate) fn onto_fixed(
         None => Ok(strokes),
         Some(start) => {
             let word = first(word, select.width);
-            put_from(None, select, bits, start, word, &mut strokes)?;
+            put_from(&None, select, bits, start, word, &mut strokes)?;
             Ok(strokes)
         }
     }

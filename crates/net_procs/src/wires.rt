@@ -101,12 +101,22 @@ pub(crate) fn chosen(
     Ok(Wires { seen, becomes })
 }
 
+/// The same nodes again.
+pub(crate) fn copy_of(alloc: Global, nodes: &[Node]) -> Result<Vec<Node>, GateFault>
+    ensures items { IfOk result (λ w. w.items ≡ nodes.now) }
+    ensures fault { IfErr result (λ fault. fault ≡ Memory) }
+{
+    let mut copy = Vec::new(alloc);
+    copy.extend_from_slice(nodes)?;
+    Ok(copy)
+}
+
 /// The same nodes again, for one side of a choice.
 pub(crate) fn copied(alloc: Global, wires: &Wires) -> Result<Wires, GateFault>
     ensures run { IfOk result (λ r. run_of r ≡ run_of wires.now) }
     ensures fault { IfErr result (λ fault. fault ≡ Memory) }
 {
-    let seen = wires.seen.as_slice().to_vec(alloc)?;
-    let becomes = wires.becomes.as_slice().to_vec(alloc)?;
+    let seen = copy_of(alloc, wires.seen.as_slice())?;
+    let becomes = copy_of(alloc, wires.becomes.as_slice())?;
     Ok(Wires { seen, becomes })
 }
