@@ -3,6 +3,7 @@ pub mod FitSteps
 pub mod NodeSteps
 pub mod StrokeSteps
 pub mod TargetForms
+pub mod TargetSteps
 pub mod MemberSteps
 pub mod LabelSteps
 pub mod BodyForms

@@ -3,19 +3,21 @@ use Rattle.std.proofs.Common.{◌≡◌, ℕ, ◌+◌, ◌-◌, ◌<◌, ◌≤�
 use Rattle.std.proofs.lemmas.List.{drop_all, drop_more, length-drop, length-take, length-map}
 use Rattle.std.proofs.lemmas.List.Elements.{All-nil, All-cons, All-head, All-tail, All-append, All-take}
 use Rattle.vlog_tree.specs.declared.expr.Part.{Part}
+use Rattle.vlog_tree.specs.declared.expr.Part.TheVariants.{Up}
 use Rattle.vlog_const.specs.declared.whole.Whole.{Whole}
 use Rattle.rdc_tern.specs.declared.value.Tern.{Tern}
 use Rattle.rdc_tern.specs.declared.value.Tern.TheVariants.{One}
 use Rattle.design_form.specs.declared.signal.Bounds.{Bounds}
 use Rattle.design_form.specs.Signals.{lowest, width_of}
+use Rattle.design_form.specs.Selects.{part_width}
 use Rattle.net_words.proofs.WordSteps.{drop_here}
 use Rattle.proc_values.specs.declared.stroke.Stroke as values
 use Rattle.proc_values.specs.Targets as value
-use Rattle.proc_values.specs.Targets.{reached, fixed_start}
+use Rattle.proc_values.specs.Targets.{reached, fixed_start, low_end}
 use Rattle.proc_values.proofs.StrokeLemmas.{far_start}
 use Rattle.net_procs.specs.declared.stroke.Stroke.{Stroke}
 use Rattle.net_procs.specs.Ready.{IsStroke}
-use Rattle.net_procs.specs.Targets.{onto, from_start, from_hit, from_starts, at_start, onto_all}
+use Rattle.net_procs.specs.Targets.{onto, from_start, from_hit, from_starts, at_start, onto_part, onto_all}
 
 -- ---- what is left
 
@@ -44,13 +46,13 @@ pub starts_end : (hits : List (Option ℕ)) (r : Bounds) (ns : List ℕ) (n i : 
 unfolding from_starts
 starts_end hits r ns n i w before whole past left = sym (append-nil before) ∙ ap (λ (u : List (Option ℕ)). before ++ from_starts u r ns n i w) (sym (drop_all i hits past)) ∙ left
 
-pub all_more : (ns w : List ℕ) (i b v : ℕ) (before after whole : List Stroke) → i < length ns → i < length w → b ≡ get_or ns i b → v ≡ get_or w i v
-    → after ≡ before ++ record { hit = None; bit = b; value = v } ∷ [] → before ++ onto_all (drop i ns) (drop i w) ≡ whole → after ++ onto_all (drop (i + 1) ns) (drop (i + 1) w) ≡ whole
+pub all_more : (ns w : List ℕ) (i e v : ℕ) (before after whole : List Stroke) → i < length ns → i < length w → v ≡ get_or w i v
+    → after ≡ before ++ record { hit = None; bit = get_or ns i e; value = v } ∷ [] → before ++ onto_all (drop i ns) (drop i w) ≡ whole → after ++ onto_all (drop (i + 1) ns) (drop (i + 1) w) ≡ whole
 unfolding onto_all
-all_more ns w i b v before after whole in_ns in_w b-is v-is put left =
+all_more ns w i e v before after whole in_ns in_w v-is put left =
     let rest = onto_all (drop (i + 1) ns) (drop (i + 1) w) in
-    ap (λ (ks : List Stroke). ks ++ rest) put ∙ append_assoc before (record { hit = None; bit = b; value = v } ∷ []) rest
-    ∙ (λ k. before ++ onto_all (sym (drop_here ns i b in_ns b-is) k) (sym (drop_here w i v in_w v-is) k)) ∙ left
+    ap (λ (ks : List Stroke). ks ++ rest) put ∙ append_assoc before (record { hit = None; bit = get_or ns i e; value = v } ∷ []) rest
+    ∙ (λ k. before ++ onto_all (sym (drop_more ns i e in_ns) k) (sym (drop_here w i v in_w v-is) k)) ∙ left
 
 no_more : (ns w : List ℕ) → min (length ns) (length w) ≤ 0 → onto_all ns w ≡ []
 unfolding onto_all
@@ -119,6 +121,10 @@ pub fixed_there : (count : ℕ) (o : Option ℕ) (r : Bounds) (ns : List ℕ) (n
 unfolding at_start
 fixed_there count None r ns n w there = All-nil (IsStroke count)
 fixed_there count (Some i) r ns n w there = start_there count None r ns n i 0 (take n w) tt (All-take (λ k. k < count) n w there)
+
+pub part_there : (count : ℕ) (r : Bounds) (ns : List ℕ) (i j : Whole) (w : List ℕ) → All (λ k. k < count) w → All (IsStroke count) (onto_part r ns i j w)
+unfolding onto_part
+part_there count r ns i j w there = fixed_there count (fixed_start Up r (part_width r i j) (low_end r i j)) r ns (part_width r i j) w there
 
 pub all_there : (count : ℕ) (ns w : List ℕ) → All (λ k. k < count) w → All (IsStroke count) (onto_all ns w)
 unfolding onto_all
