@@ -78,7 +78,10 @@ members_here {all} {old} {now} d nodes es w rest at left below m ks step inside 
 
 pub members_whole : {all : Build (List Stroke)} {old now : List Numbered} (d : Parts) (nodes : List ℕ) (es : List Expr) (w : List ℕ) (left : ℕ) (ks : List Stroke) → left ≤ 0 → IsLeft all old now (down (member_on d nodes es w) left ks) → IsLeft all old now (return ks)
 unfolding down
-members_whole {all} {old} {now} d nodes es w left ks none found = subst (λ (n : ℕ). IsLeft all old now (down (member_on d nodes es w) n ks)) (omega (arith, none)) found
+members_whole {all} {old} {now} d nodes es w left ks none found = subst (λ (n : ℕ). IsLeft all old now (down (member_on d nodes es w) n ks)) (zero_is left none) found
+  where
+    zero_is : (n : ℕ) → n ≤ 0 → n ≡ zero
+    zero_is n none = omega (arith, none)
 
 -- ---- widths
 

@@ -1,5 +1,5 @@
 -- Serves src/strokes.rt: strokes so far, and those that are left; and nodes of strokes, which are there.
-use Rattle.std.proofs.Common.{◌≡◌, ℕ, ◌+◌, ◌-◌, ◌<◌, ◌≤◌, ◌^◌, min, List, [], ◌∷◌, ◌++◌, All, length, map, take, drop, get_or, refl, sym, ap, ◌∙◌, arith, Option, None, Some, IfSome, append-nil, append_assoc}
+use Rattle.std.proofs.Common.{◌≡◌, ℕ, ◌+◌, ◌-◌, ◌<◌, ◌≤◌, ◌^◌, min, List, [], ◌∷◌, ◌++◌, All, length, map, take, drop, get_or, refl, sym, ap, ◌∙◌, arith, Option, None, Some, IfSome, append-nil, append_assoc, lt_of_lt_of_le}
 use Rattle.std.proofs.lemmas.List.{drop_all, drop_more, length-drop, length-take, length-map}
 use Rattle.std.proofs.lemmas.List.Elements.{All-nil, All-cons, All-head, All-tail, All-append, All-take}
 use Rattle.vlog_tree.specs.declared.expr.Part.{Part}
@@ -14,6 +14,7 @@ use Rattle.net_words.proofs.WordSteps.{drop_here}
 use Rattle.proc_values.specs.declared.stroke.Stroke as values
 use Rattle.proc_values.specs.Targets as value
 use Rattle.proc_values.specs.Targets.{reached, fixed_start, low_end}
+use Rattle.net_exprs.proofs.PickSteps.{some_more}
 use Rattle.proc_values.proofs.StrokeLemmas.{far_start}
 use Rattle.net_procs.specs.declared.stroke.Stroke.{Stroke}
 use Rattle.net_procs.specs.Ready.{IsStroke}
@@ -132,3 +133,10 @@ all_there count [] w there = All-nil (IsStroke count)
 all_there count (b ∷ ns) [] there = All-nil (IsStroke count)
 all_there count (b ∷ ns) (v ∷ w) there =
     All-cons (IsStroke count) (record { hit = None; bit = b; value = v }) (onto_all ns w) (record { value = All-head (λ k. k < count) v w there; hit = tt }) (all_there count ns w (All-tail (λ k. k < count) v w there))
+
+-- in a net that has grown
+later_one : (a b : ℕ) (k : Stroke) → a ≤ b → IsStroke a k → IsStroke b k
+later_one a b k longer there = record { value = lt_of_lt_of_le there.value longer; hit = some_more k.hit a b longer there.hit }
+
+pub later : (a b : ℕ) (ks : List Stroke) → a ≤ b → All (IsStroke a) ks → All (IsStroke b) ks
+later a b ks longer there i d inside = later_one a b (get_or ks i d) longer (there i d inside)

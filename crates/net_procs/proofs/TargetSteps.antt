@@ -1,5 +1,5 @@
 -- Serves src/targets.rt: how a select is written, by its index, and strokes that are there.
-use Rattle.std.proofs.Common.{◌≡◌, ℕ, List, All, Option, Some, None, Result, Ok, Err, IfOk, refl, sym, ap, subst}
+use Rattle.std.proofs.Common.{◌≡◌, ◌⊎◌, ℕ, List, All, Option, Some, None, Result, Ok, Err, IfOk, inl, inr, refl, sym, ap, subst}
 use Rattle.vlog_tree.specs.declared.expr.Expr.{Expr}
 use Rattle.vlog_tree.specs.declared.expr.Part.{Part}
 use Rattle.vlog_tree.specs.declared.expr.Part.TheVariants.{Fixed, Up, Down}
@@ -31,6 +31,10 @@ pub written_fixed : (d : Parts) (nodes : List ℕ) (how : Part) (name : List ℕ
     → return (onto_part (range_of d.signals name) (all_bits d.signals name) (number_alone i) (number_alone j) w) ≡ select_strokes d nodes how name i j w
 unfolding select_strokes
 written_fixed d nodes how name i j w is = ap (λ (p : Part). select_strokes d nodes p name i j w) (sym is)
+
+pub not_fixed : (how : Part) → (how ≡ Up) ⊎ (how ≡ Down) → how ≡ Fixed → ⊥
+not_fixed how (inl up) fixed = absurd cc
+not_fixed how (inr down) fixed = absurd cc
 
 pub written_moving : (d : Parts) (nodes : List ℕ) (how : Part) (name : List ℕ) (i j : Expr) (n : ℕ) (w : List ℕ) → (how ≡ Fixed → ⊥) → n ≡ count_alone j
     → onto_select d nodes how name (constant i) i n w ≡ select_strokes d nodes how name i j w

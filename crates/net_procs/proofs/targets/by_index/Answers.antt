@@ -1,4 +1,4 @@
-use Rattle.std.proofs.Common.{◌≡◌, ℕ, length, take, ap, sym, ◌∙◌, le_trans}
+use Rattle.std.proofs.Common.{◌≡◌, ◌<◌, ℕ, length, take, ap, sym, ◌∙◌, le_trans}
 use Rattle.std.proofs.lemmas.List.Elements.{All-take}
 use Rattle.vlog_const.specs.declared.shape.Shape.{Shape}
 use Rattle.design_form.specs.Extents.{shape_of}
@@ -66,4 +66,4 @@ returns-clause-inside c =
     strokes_inside (λ ks. ks.items) (length c.hits.new.net) (from_starts c.in_ok-hits.hits.items r (all_bits d.signals c.args.name.now) c.args.width 0 (take c.args.width c.args.word.now)) c.onto_starts.result
     (rw (c.as_slice-2.ensures.value, c.first.ensures, c.all_bits-bits.ensures, c.range_of-range.ensures) at c.onto_starts.ensures.items)
     (starts_there (length c.hits.new.net) c.in_ok-hits.hits.items r (all_bits d.signals c.args.name.now) c.args.width 0 (take c.args.width c.args.word.now) c.in_ok-hits.ensures.inside
-    (All-take _ c.args.width c.args.word.now (still_there c.args.net.now c.hits.new.net c.args.word.now c.requires.word (le_trans c.in_ok-at.ensures.longer c.in_ok-hits.ensures.longer))))
+    (All-take (λ (k : ℕ). k < length c.hits.new.net) c.args.width c.args.word.now (still_there c.args.net.now c.hits.new.net c.args.word.now c.requires.word (le_trans c.in_ok-at.ensures.longer c.in_ok-hits.ensures.longer))))

@@ -6,7 +6,7 @@ use Rattle.net_exprs.proofs.Transport.{same_build}
 use Rattle.net_procs.specs.Targets.{onto_part}
 use Rattle.net_procs.proofs.Steps.{nothing_drawn}
 use Rattle.net_procs.proofs.StrokeSteps.{part_there}
-use Rattle.net_procs.proofs.TargetSteps.{strokes_inside, written_fixed, written_moving}
+use Rattle.net_procs.proofs.TargetSteps.{strokes_inside, not_fixed, written_fixed, written_moving}
 use Rattle.net_procs.proofs.targets.onto_written.Goals as goal
 
 pub returns-in-Fixed-clause-builds : goal.returns-in-Fixed-clause-builds
@@ -25,7 +25,7 @@ returns-in-Fixed-clause-inside c =
 
 pub returns-in_ok-width-in-Up : goal.returns-in_ok-width-in-Up
 returns-in_ok-width-in-Up c =
-    let moves : c.args.part ≡ Fixed → ⊥ = ? in
+    let moves : c.args.part ≡ Fixed → ⊥ = not_fixed c.args.part c.in-Up.is in
     record {
       builds = same_build _ _ (written_moving c.args.design.now c.args.nodes.now c.args.part c.args.name.now c.args.first.now c.args.second.now c.in_ok-width-in-Up.width c.args.word.now moves c.in_ok-width-in-Up.ensures.value) c.onto_select.ensures.builds;
       inside = c.onto_select.ensures.inside;
