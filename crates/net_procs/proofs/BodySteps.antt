@@ -1,19 +1,71 @@
--- Serves src/body.rt: statements in order, and items of a `case` from the last one up.
-use Rattle.std.proofs.Common.{◌≡◌, ℕ, zero, suc, ◌+◌, ◌-◌, ◌<◌, ◌≤◌, Bool, true, false, if◌then◌else◌, List, [], ◌∷◌, length, map, drop, get_or, Option, Some, None, slice_get, refl, sym, ap, subst, ◌∙◌, arith}
+-- Serves src/body.rt: choices, statements in order, and items of a `case` from the last one up.
+use Rattle.std.proofs.Common.{◌≡◌, ℕ, zero, suc, ◌+◌, ◌-◌, ◌<◌, ◌≤◌, Bool, true, false, if◌then◌else◌, List, [], ◌∷◌, length, map, drop, get_or, Option, Some, None, slice_get, Result, Ok, Err, IsErr, IsErrAnd, refl, sym, ap, subst, ◌∙◌, arith}
 use Rattle.std.specs.Option.{option_map}
 use Rattle.std.proofs.lemmas.List.{drop_all, drop_more}
 use Rattle.std.proofs.lemmas.Option.{slice_get_read, slice_get_past, slice_get-map}
 use Rattle.vlog_tree.specs.declared.expr.Expr.{Expr}
 use Rattle.vlog_tree.specs.declared.stmt.Arm.{Arm}
+use Rattle.vlog_tree.specs.declared.stmt.Matching.{Matching}
 use Rattle.vlog_tree.specs.declared.stmt.Stmt.{Stmt}
+use Rattle.vlog_tree.specs.declared.stmt.Stmt.TheVariants as s
+use Rattle.rdc_outside.specs.declared.source.Place.{Place}
+use Rattle.vlog_const.specs.declared.shape.Shape.{Shape}
+use Rattle.design_form.specs.declared.parts.Parts.{Parts}
+use Rattle.design_sizes.specs.Sizes.{case_shape}
+use Rattle.proc_cases.specs.Full.{is_full, labels_of}
 use Rattle.net_view.specs.View.{Numbered}
-use Rattle.net_words.specs.Builds.{Build, ◌>>=◌, return}
-use Rattle.net_words.proofs.BuildLemmas.{IsLeft, all_left}
-use Rattle.proc_values.specs.Cases.{is_at, with_body}
-use Rattle.net_procs.specs.Runs.{Run, Step}
-use Rattle.net_procs.specs.Cases.{item, item_if, chain, body_in, body_at}
-use Rattle.net_procs.specs.Bodies.{in_order}
+use Rattle.net_gates.specs.declared.fault.GateFault.{GateFault}
+use Rattle.net_words.specs.Builds.{Build, Builds, ◌>>=◌, return}
+use Rattle.net_words.proofs.BuildLemmas.{IsLeft, all_left, fault}
+use Rattle.net_exprs.specs.Names.{wired_in}
+use Rattle.net_exprs.specs.Lowered.{built_in}
+use Rattle.net_exprs.proofs.Transport.{same_build}
+use Rattle.proc_values.specs.Cases.{is_at, standing, with_body}
+use Rattle.proc_values.proofs.CaseLemmas.{labels_kept, standing_kept}
+use Rattle.net_procs.specs.Runs.{Run, Step, chosen}
+use Rattle.net_procs.specs.Cases.{item, item_if, chain, body_in, body_at, case_run}
+use Rattle.net_procs.specs.Labels.{any_hit}
+use Rattle.net_procs.specs.Bodies.{tested, branch, side, cases, in_order, run}
+use Rattle.net_procs.proofs.BodyForms.{form-If, form-Either}
 use Rattle.net_procs.proofs.Steps.{steps_through, step_alone, left_as, given, there_is, down}
+
+-- ---- choices
+
+-- a test that isn't drawn
+pub if_fault : {B : Type 0} (g : B → Run) (d : Parts) (reads bits : List ℕ) (t : Stmt) (place : Place) (test : Expr) (a : Stmt) (other : Option Stmt) (r : Run) (old new : List Numbered) (e : GateFault) (q : Result B GateFault)
+    → t ≡ s.If place test a other → Builds (λ n. n) (tested d test r.now) old (Err e) new → IsErr q × IsErrAnd q (λ x. x ≡ e) → Builds g (run d reads bits t r) old q new
+unfolding branch
+if_fault g d reads bits t place test a None r old new e q is built same =
+    same_build (branch d reads bits test (run d reads bits a) (side None) r) (run d reads bits t r) (form-If d reads bits t place test a a None r is refl refl)
+    (fault _ _ (all_left (branch d reads bits test (run d reads bits a) (side None) r) old) built same)
+if_fault g d reads bits t place test a (Some b) r old new e q is built same =
+    same_build (branch d reads bits test (run d reads bits a) (side (Some (run d reads bits b))) r) (run d reads bits t r) (form-Either d reads bits t place test a a b b (Some b) r is refl refl refl)
+    (fault _ _ (all_left (branch d reads bits test (run d reads bits a) (side (Some (run d reads bits b))) r) old) built same)
+
+-- no second side: the nodes as they are
+pub one_side : {all : Build Run} {old now : List Numbered} (reads bits : List ℕ) (c : ℕ) (x r : Run) → IsLeft all old now (side None r >>= (λ y. chosen reads bits c x y)) → IsLeft all old now (chosen reads bits c x r)
+unfolding side
+one_side reads bits c x r left = given r (λ y. chosen reads bits c x y) left
+
+pub two_sides : {all : Build Run} {old now : List Numbered} (reads bits : List ℕ) (c : ℕ) (x r : Run) (f : Step) → IsLeft all old now (side (Some f) r >>= (λ y. chosen reads bits c x y)) → IsLeft all old now (f r >>= (λ y. chosen reads bits c x y))
+unfolding side
+two_sides reads bits c x r f left = left
+
+pub case_left : (net : List Numbered) (d : Parts) (reads bits : List ℕ) (how how' : Matching) (selector : Expr) (arms : List (Arm Stmt)) (r : Run) (c : Shape) (full : Bool) (at : Option ℕ)
+    → how' ≡ how → c ≡ case_shape d selector (labels_of arms) → full ≡ is_full d how selector (labels_of arms) → at ≡ standing full arms
+    → IsLeft (cases d reads bits how selector (map (with_body (run d reads bits)) arms) r) net net
+    (built_in (wired_in d r.now) (case_shape d selector (labels_of arms)) selector >>= (λ word. case_run reads bits (any_hit d r.now how' c word) at (map (with_body (run d reads bits)) arms) r))
+unfolding cases
+case_left net d reads bits how how' selector arms r c full at how-is shape full-is at-is =
+    let items = map (with_body (run d reads bits)) arms in
+    let labels : labels_of items ≡ labels_of arms = labels_kept (run d reads bits) arms in
+    let shape-is : case_shape d selector (labels_of items) ≡ c = ap (case_shape d selector) labels ∙ sym shape in
+    let stands : standing (is_full d how selector (labels_of items)) items ≡ at =
+        ap (λ (l : List Expr). standing (is_full d how selector l) items) labels ∙ standing_kept (run d reads bits) (is_full d how selector (labels_of arms)) arms
+        ∙ ap (λ (b : Bool). standing b arms) (sym full-is) ∙ sym at-is in
+    left_as _ _
+    (λ k. built_in (wired_in d r.now) (case_shape d selector (labels k)) selector >>= (λ word. case_run reads bits (any_hit d r.now (sym how-is k) (shape-is k) word) (stands k) items r))
+    (all_left (cases d reads bits how selector items r) net)
 
 -- ---- statements in order
 

@@ -1,5 +1,5 @@
 -- Serves calls that draw: steps that draw nothing, steps that are made of steps, and what is the same.
-use Rattle.std.proofs.Common.{◌≡◌, ℕ, zero, suc, ◌<◌, List, [], ◌∷◌, length, get_or, arith, Option, Some, None, Result, Ok, Err, IfOk, IfErr, refl, sym, ap, subst, ◌∙◌}
+use Rattle.std.proofs.Common.{◌≡◌, ℕ, zero, suc, ◌<◌, All, List, [], ◌∷◌, length, get_or, arith, Option, Some, None, Result, Ok, Err, IfOk, IfErr, refl, sym, ap, subst, ◌∙◌}
 use Rattle.net_view.specs.View.{Numbered}
 use Rattle.net_gates.specs.declared.fault.GateFault.{GateFault}
 use Rattle.net_gates.specs.declared.fault.GateFault.TheVariants.{Memory}
@@ -45,6 +45,10 @@ inner b k h left = left_as ((b >>= k) >>= h) (b >>= (λ x. k x >>= h)) (steps_th
 pub nothing_drawn : {A X : Type 0} (f : A → X) (x : X) (net : List Numbered) (r : Result A GateFault) → IfOk r (λ a. f a ≡ x) → IfErr r (λ e. e ≡ Memory) → Builds f (return x) net r net
 nothing_drawn f x net (Ok a) is memory = done f a (subst (λ (y : _). IsLeft (return x) net net (return y)) (sym is) (all_left (return x) net))
 nothing_drawn f x net (Err e) is memory = record { front = begins_itself net; answers = subst (λ (z : GateFault). Answers f (return x) net (Err z) net) (sym memory) tt }
+
+pub made_inside : {A X : Type 0} (f : A → List X) (P : X → Type 0) (x : List X) (r : Result A GateFault) → IfOk r (λ a. f a ≡ x) → All P x → IfOk r (λ a. All P (f a))
+made_inside {X = X} f P x (Ok a) is there = subst (λ (y : List X). All P y) (sym is) there
+made_inside f P x (Err e) is there = tt
 
 -- ---- steps counted down
 

@@ -20,7 +20,7 @@ use net_gates::{GateFault, GateList, Node};
 use proc_values::{is_at, standing};
 use sqlite_items::Boxed;
 use std::alloc::Global;
-use vlog_tree::{Arm, Expr, Matching, Stmt};
+use vlog_tree::{Arm, Expr, Stmt};
 
 /// What a statement makes of the nodes.
 #[cycle(running)]
@@ -43,15 +43,27 @@ fn run(
             assign(alloc, net, frame, target, *by, value, wires)
         }
         Stmt::If(_, test, first, other) => {
+            let choice = tested(alloc, net, frame.design, test, wires.seen.as_slice())?;
             match other {
-                None => run_if(alloc, net, frame, test, first.get(), wires),
+                None => run_if(alloc, net, frame, choice, first.get(), wires),
                 Some(other) => {
-                    run_either(alloc, net, frame, test, first.get(), other.get(), wires)
+                    run_either(alloc, net, frame, choice, first.get(), other.get(), wires)
                 }
             }
         }
         Stmt::Case(_, how, selector, arms) => {
-            run_case(alloc, net, frame, *how, selector, arms.as_slice(), wires)
+            let (nodes, arms) = (wires.seen.as_slice(), arms.as_slice());
+            let full = is_full(alloc, frame.design, *how, selector, arms)?;
+            let choice = choice_of(alloc, net, frame.design, nodes, *how, selector, arms)?;
+            run_items(
+                alloc,
+                net,
+                frame,
+                &choice,
+                standing(full, arms),
+                arms,
+                &wires,
+            )
         }
         Stmt::For(_, _, body) => run(alloc, net, frame, body.get(), wires),
     }
@@ -99,70 +111,46 @@ fn run_copy(
     run(alloc, net, frame, s, copy)
 }
 
-/// An `if` without `else`.
+/// An `if` without `else`, behind its test.
 #[cycle(running)]
 fn run_if(
     alloc: Global,
     net: &mut GateList,
     frame: &Frame<'_>,
-    test: &Expr,
+    choice: Node,
     first: &Stmt,
     wires: Wires,
 ) -> Result<Wires, GateFault>
+    requires choice { choice < length net.old }
     requires fits { Fits frame.now net.old (run_of wires) }
-    ensures builds { Builds run_of (spec.branch frame.now.design.now frame.now.reads.now frame.now.bits.now test.now (step_of frame.now first.now) (spec.side None) (run_of wires)) net.old result net.new }
+    ensures builds { Builds run_of (spec.sides frame.now.reads.now frame.now.bits.now choice (step_of frame.now first.now) (spec.side None) (run_of wires)) net.old result net.new }
     ensures fits { IfOk result (λ r. Fits frame.now net.new (run_of r)) }
     ensures longer { length net.old ≤ length net.new }
 {
-    let choice = tested(alloc, net, frame.design, test, wires.seen.as_slice())?;
     let one = run_copy(alloc, net, frame, first, &wires)?;
     chosen(alloc, net, frame, choice, &one, wires)
 }
 
-/// An `if` with `else`: both sides start from the same nodes.
+/// An `if` with `else`, behind its test: both sides start from the same nodes.
 #[cycle(running)]
 fn run_either(
     alloc: Global,
     net: &mut GateList,
     frame: &Frame<'_>,
-    test: &Expr,
+    choice: Node,
     first: &Stmt,
     other: &Stmt,
     wires: Wires,
 ) -> Result<Wires, GateFault>
+    requires choice { choice < length net.old }
     requires fits { Fits frame.now net.old (run_of wires) }
-    ensures builds { Builds run_of (spec.branch frame.now.design.now frame.now.reads.now frame.now.bits.now test.now (step_of frame.now first.now) (spec.side (Some (step_of frame.now other.now))) (run_of wires)) net.old result net.new }
+    ensures builds { Builds run_of (spec.sides frame.now.reads.now frame.now.bits.now choice (step_of frame.now first.now) (spec.side (Some (step_of frame.now other.now))) (run_of wires)) net.old result net.new }
     ensures fits { IfOk result (λ r. Fits frame.now net.new (run_of r)) }
     ensures longer { length net.old ≤ length net.new }
 {
-    let choice = tested(alloc, net, frame.design, test, wires.seen.as_slice())?;
     let one = run_copy(alloc, net, frame, first, &wires)?;
     let two = run(alloc, net, frame, other, wires)?;
     chosen(alloc, net, frame, choice, &one, two)
-}
-
-/// A `case`: the selector is drawn, then its items.
-#[cycle(running)]
-fn run_case(
-    alloc: Global,
-    net: &mut GateList,
-    frame: &Frame<'_>,
-    how: Matching,
-    selector: &Expr,
-    arms: &[Arm<Boxed<Stmt>>],
-    wires: Wires,
-) -> Result<Wires, GateFault>
-    requires fits { Fits frame.now net.old (run_of wires) }
-    ensures builds { Builds run_of (spec.cases frame.now.design.now frame.now.reads.now frame.now.bits.now how selector.now (map (with_body (step_of frame.now)) arms.now) (run_of wires)) net.old result net.new }
-    ensures fits { IfOk result (λ r. Fits frame.now net.new (run_of r)) }
-    ensures longer { length net.old ≤ length net.new }
-{
-    let design = frame.design;
-    let full = is_full(alloc, design, how, selector, arms)?;
-    let at = standing(full, arms);
-    let nodes = wires.seen.as_slice();
-    let choice = choice_of(alloc, net, design, nodes, how, selector, arms)?;
-    run_items(alloc, net, frame, &choice, at, arms, &wires)
 }
 
 /// The item that stands for the default, or nothing.
@@ -198,8 +186,8 @@ fn run_item(
     net: &mut GateList,
     frame: &Frame<'_>,
     choice: &Choice,
-    labels: &[Expr],
     body: &Stmt,
+    labels: &[Expr],
     wires: &Wires,
     rest: Wires,
 ) -> Result<Wires, GateFault>
@@ -240,10 +228,10 @@ fn run_items(
     let mut left = arms.len();
     while 0 < left {
         left -= 1;
-        let labels = arms[left].labels.as_slice();
-        let body = arms[left].body.get();
+        let arm = &arms[left];
+        let (labels, body) = (arm.labels.as_slice(), arm.body.get());
         if !is_at(at, left) {
-            rest = match run_item(alloc, net, frame, choice, labels, body, wires, rest) {
+            rest = match run_item(alloc, net, frame, choice, body, labels, wires, rest) {
                 Ok(rest) => rest,
                 Err(fault) => return Err(fault),
             };

@@ -6,7 +6,7 @@ use Rattle.proc_values.specs.Cases.{with_body}
 use Rattle.net_procs.specs.Bodies.{in_order, run}
 use Rattle.net_procs.specs.Cases.{body_at, case_run}
 use Rattle.net_procs.specs.Labels.{any_hit}
-use Rattle.net_procs.specs.Ready.{run_of, IsFit}
+use Rattle.net_procs.specs.Ready.{run_of, IsChoice, IsFit}
 use Rattle.net_procs.proofs.Steps.{down}
 use Rattle.net_procs.proofs.BodySteps.{item_on}
 use Rattle.net_procs.proofs.body.+running.Given as goal
@@ -30,6 +30,8 @@ invariant-run_items-loop-left l =
     record {
       above : IsLeft (case_run reads bits hit l.at (map (with_body f) l.arms) (run_of l.wires)) l.fn.net l.net (down (item_on reads bits hit l.at f l.arms (run_of l.wires)) l.left (run_of l.rest));
       fits : IsFit l.frame.design.now reads bits l.net (run_of l.rest);
+      choice : IsChoice l.net l.choice;
+      start : IsFit l.frame.design.now reads bits l.net (run_of l.wires);
       longer : length l.fn.net ≤ length l.net;
       inside : l.left ≤ length l.arms;
     }

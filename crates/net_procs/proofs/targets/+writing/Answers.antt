@@ -75,7 +75,7 @@ strokes-returns-in-Concat-clause-builds t c =
     same_build _ _ (form-Concat c.args.design.now c.args.nodes.now c.args.word.now c.args.target.now _ c.in-Concat.members c.as_slice-in-Concat.result.now c.in-Concat.is c.as_slice-in-Concat.ensures) c.onto_members.ensures.builds
 
 pub strokes-returns-in-Number-clause-builds : goal.strokes-returns-in-Number-clause-builds
-strokes-returns-in-Number-clause-builds t c = 
+strokes-returns-in-Number-clause-builds t c =
     let d = c.args.design.now in
     let nodes = c.args.nodes.now in
     let w = c.args.word.now in
