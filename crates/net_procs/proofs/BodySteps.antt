@@ -16,7 +16,7 @@ use Rattle.proc_cases.specs.Full.{is_full, labels_of}
 use Rattle.net_view.specs.View.{Numbered}
 use Rattle.net_gates.specs.declared.fault.GateFault.{GateFault}
 use Rattle.net_words.specs.Builds.{Build, Builds, ◌>>=◌, return}
-use Rattle.net_words.proofs.BuildLemmas.{IsLeft, all_left, fault}
+use Rattle.net_words.proofs.BuildLemmas.{IsLeft, all_left, next, fault}
 use Rattle.net_exprs.specs.Names.{wired_in}
 use Rattle.net_exprs.specs.Lowered.{built_in}
 use Rattle.net_exprs.proofs.Transport.{same_build}
@@ -42,6 +42,17 @@ if_fault g d reads bits t place test a (Some b) r old new e q is built same =
     same_build (branch d reads bits test (run d reads bits a) (side (Some (run d reads bits b))) r) (run d reads bits t r) (form-Either d reads bits t place test a a b b (Some b) r is refl refl refl)
     (fault _ _ (all_left (branch d reads bits test (run d reads bits a) (side (Some (run d reads bits b))) r) old) built same)
 
+-- a first side that isn't drawn
+pub one_fault : {B : Type 0} (g : B → Run) (f : B → Run) (d : Parts) (reads bits : List ℕ) (t : Stmt) (place : Place) (test : Expr) (a x : Stmt) (other : Option Stmt) (r : Run) (old mid new : List Numbered) (c : ℕ) (e : GateFault) (q : Result B GateFault)
+    → t ≡ s.If place test a other → x ≡ a → Builds (λ n. n) (tested d test r.now) old (Ok c) mid → Builds f (run d reads bits x r) mid (Err e) new → IsErr q × IsErrAnd q (λ x. x ≡ e) → Builds g (run d reads bits t r) old q new
+unfolding branch
+one_fault g f d reads bits t place test a x None r old mid new c e q is one first built same =
+    same_build (branch d reads bits test (run d reads bits x) (side None) r) (run d reads bits t r) (form-If d reads bits t place test a x None r is refl one)
+    (fault _ _ (next _ _ (all_left (branch d reads bits test (run d reads bits x) (side None) r) old) first) built same)
+one_fault g f d reads bits t place test a x (Some b) r old mid new c e q is one first built same =
+    same_build (branch d reads bits test (run d reads bits x) (side (Some (run d reads bits b))) r) (run d reads bits t r) (form-Either d reads bits t place test a x b b (Some b) r is refl one refl)
+    (fault _ _ (next _ _ (all_left (branch d reads bits test (run d reads bits x) (side (Some (run d reads bits b))) r) old) first) built same)
+
 -- no second side: the nodes as they are
 pub one_side : {all : Build Run} {old now : List Numbered} (reads bits : List ℕ) (c : ℕ) (x r : Run) → IsLeft all old now (side None r >>= (λ y. chosen reads bits c x y)) → IsLeft all old now (chosen reads bits c x r)
 unfolding side
@@ -61,8 +72,8 @@ case_left net d reads bits how how' selector arms r c full at how-is shape full-
     let labels : labels_of items ≡ labels_of arms = labels_kept (run d reads bits) arms in
     let shape-is : case_shape d selector (labels_of items) ≡ c = ap (case_shape d selector) labels ∙ sym shape in
     let stands : standing (is_full d how selector (labels_of items)) items ≡ at =
-        ap (λ (l : List Expr). standing (is_full d how selector l) items) labels ∙ standing_kept (run d reads bits) (is_full d how selector (labels_of arms)) arms
-        ∙ ap (λ (b : Bool). standing b arms) (sym full-is) ∙ sym at-is in
+    ap (λ (l : List Expr). standing (is_full d how selector l) items) labels ∙ standing_kept (run d reads bits) (is_full d how selector (labels_of arms)) arms
+    ∙ ap (λ (b : Bool). standing b arms) (sym full-is) ∙ sym at-is in
     left_as _ _
     (λ k. built_in (wired_in d r.now) (case_shape d selector (labels k)) selector >>= (λ word. case_run reads bits (any_hit d r.now (sym how-is k) (shape-is k) word) (stands k) items r))
     (all_left (cases d reads bits how selector items r) net)

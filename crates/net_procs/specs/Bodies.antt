@@ -65,17 +65,12 @@ tested d test now = do
   word ← built_of (wired_in d now) test
   any word
 
--- both sides of a choice, from the same nodes
-unfoldable pub sides : List ℕ → List ℕ → ℕ → Step → Step → Step
-sides reads bits c one other r = do
-  x ← one r
-  y ← other r
-  chosen reads bits c x y
-
 unfoldable pub branch : Parts → List ℕ → List ℕ → Expr → Step → Step → Step
 branch d reads bits test one other r = do
   c ← tested d test r.now
-  sides reads bits c one other r
+  x ← one r
+  y ← other r
+  chosen reads bits c x y
 
 -- the items behind a selector that is drawn, where c is the shape of the selector and all labels together
 abbrev pub cases_by : Parts → List ℕ → List ℕ → Matching → Shape → Option ℕ → List ℕ → List (Arm Step) → Step

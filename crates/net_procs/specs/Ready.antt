@@ -4,11 +4,12 @@
 --   IsChoice gates c               the nodes of a selector are there, as many as its size says
 --   IsFit d reads bits gates r     a node for each bit that is read or assigned, and these nodes are there
 --   Fits f gates r, step_of f s    the same, and what a statement draws, in a frame
+--   behind_one f c one other       what is left of a choice behind its first side
 use Rattle.std.specs.Prelude.{◌≡◌, ℕ, ◌<◌, List, All, length, IfSome}
 use Rattle.vlog_tree.specs.declared.stmt.Stmt.{Stmt}
 use Rattle.design_form.specs.declared.parts.Parts.{Parts}
 use Rattle.net_view.specs.View.{Numbered}
-use Rattle.net_words.specs.Builds.{AreThere}
+use Rattle.net_words.specs.Builds.{AreThere, ◌>>=◌}
 use Rattle.net_exprs.specs.Names.{HasNodes}
 use Rattle.net_procs.specs.declared.frame.Frame.{Frame}
 use Rattle.net_procs.specs.declared.labels.Choice.{Choice}
@@ -16,7 +17,7 @@ use Rattle.net_procs.specs.declared.stroke.Stroke.{Stroke}
 use Rattle.net_procs.specs.declared.wires.Wires.{Wires}
 use Rattle.net_procs.specs.Bodies.{run}
 use Rattle.net_procs.specs.Laws.{AreBits}
-use Rattle.net_procs.specs.Runs.{Run, Step}
+use Rattle.net_procs.specs.Runs.{Run, Step, chosen}
 
 abbrev pub run_of : Wires → Run
 run_of w = record { now = w.seen.items; next = w.becomes.items }
@@ -45,3 +46,7 @@ Fits f gates r = IsFit f.design.now f.reads.now f.bits.now gates r
 
 abbrev pub step_of : Frame → Stmt → Step
 step_of f s = run f.design.now f.reads.now f.bits.now s
+
+-- what is left of a choice behind its first side
+abbrev pub behind_one : Frame → ℕ → Run → Step → Step
+behind_one f c one other r = other r >>= (λ two. chosen f.reads.now f.bits.now c one two)

@@ -8,7 +8,7 @@ ghost use Rattle.net_procs.specs.Bodies as spec;
 ghost use Rattle.net_procs.specs.Cases.{body_at, case_run, item};
 ghost use Rattle.net_procs.specs.Labels.{any_hit};
 ghost use Rattle.net_procs.specs.Laws.{AreBits};
-ghost use Rattle.net_procs.specs.Ready.{run_of, Fits, IsChoice, step_of};
+ghost use Rattle.net_procs.specs.Ready.{run_of, Fits, IsChoice, behind_one, step_of};
 
 use crate::frame::Frame;
 use crate::indices::is_full;
@@ -44,11 +44,10 @@ fn run(
         }
         Stmt::If(_, test, first, other) => {
             let choice = tested(alloc, net, frame.design, test, wires.seen.as_slice())?;
+            let one = run_copy(alloc, net, frame, first.get(), &wires)?;
             match other {
-                None => run_if(alloc, net, frame, choice, first.get(), wires),
-                Some(other) => {
-                    run_either(alloc, net, frame, choice, first.get(), other.get(), wires)
-                }
+                None => chosen(alloc, net, frame, choice, &one, wires),
+                Some(other) => run_other(alloc, net, frame, choice, &one, other.get(), wires),
             }
         }
         Stmt::Case(_, how, selector, arms) => {
@@ -111,46 +110,26 @@ fn run_copy(
     run(alloc, net, frame, s, copy)
 }
 
-/// An `if` without `else`, behind its test.
+/// The second side of a choice, from the nodes from which the first one started.
 #[cycle(running)]
-fn run_if(
+fn run_other(
     alloc: Global,
     net: &mut GateList,
     frame: &Frame<'_>,
     choice: Node,
-    first: &Stmt,
-    wires: Wires,
-) -> Result<Wires, GateFault>
-    requires choice { choice < length net.old }
-    requires fits { Fits frame.now net.old (run_of wires) }
-    ensures builds { Builds run_of (spec.sides frame.now.reads.now frame.now.bits.now choice (step_of frame.now first.now) (spec.side None) (run_of wires)) net.old result net.new }
-    ensures fits { IfOk result (λ r. Fits frame.now net.new (run_of r)) }
-    ensures longer { length net.old ≤ length net.new }
-{
-    let one = run_copy(alloc, net, frame, first, &wires)?;
-    chosen(alloc, net, frame, choice, &one, wires)
-}
-
-/// An `if` with `else`, behind its test: both sides start from the same nodes.
-#[cycle(running)]
-fn run_either(
-    alloc: Global,
-    net: &mut GateList,
-    frame: &Frame<'_>,
-    choice: Node,
-    first: &Stmt,
+    one: &Wires,
     other: &Stmt,
     wires: Wires,
 ) -> Result<Wires, GateFault>
     requires choice { choice < length net.old }
+    requires one { Fits frame.now net.old (run_of one.now) }
     requires fits { Fits frame.now net.old (run_of wires) }
-    ensures builds { Builds run_of (spec.sides frame.now.reads.now frame.now.bits.now choice (step_of frame.now first.now) (spec.side (Some (step_of frame.now other.now))) (run_of wires)) net.old result net.new }
+    ensures builds { Builds run_of (behind_one frame.now choice (run_of one.now) (step_of frame.now other.now) (run_of wires)) net.old result net.new }
     ensures fits { IfOk result (λ r. Fits frame.now net.new (run_of r)) }
     ensures longer { length net.old ≤ length net.new }
 {
-    let one = run_copy(alloc, net, frame, first, &wires)?;
     let two = run(alloc, net, frame, other, wires)?;
-    chosen(alloc, net, frame, choice, &one, two)
+    chosen(alloc, net, frame, choice, one, two)
 }
 
 /// The item that stands for the default, or nothing.

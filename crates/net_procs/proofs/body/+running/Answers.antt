@@ -10,14 +10,14 @@ use Rattle.net_words.proofs.BuildLemmas.{all_left, next, fault, last, done}
 use Rattle.net_exprs.proofs.Transport.{same_build}
 use Rattle.proc_values.specs.Cases.{standing, with_body}
 use Rattle.net_procs.specs.Runs.{Run, Step}
-use Rattle.net_procs.specs.Bodies.{branch, sides, side, run}
+use Rattle.net_procs.specs.Bodies.{branch, side, run}
 use Rattle.net_procs.specs.Cases.{body_at, item}
 use Rattle.net_procs.specs.Labels.{any_hit}
-use Rattle.net_procs.specs.Ready.{run_of, IsFit}
+use Rattle.net_procs.specs.Ready.{run_of, behind_one, IsFit}
 use Rattle.net_procs.proofs.Steps.{nothing_drawn}
 use Rattle.net_procs.proofs.FitSteps.{fit_later, fit_same, choice_later}
 use Rattle.net_procs.proofs.BodyForms.{form-Empty, form-Block, form-Assign, form-If, form-Either, form-Case, form-For}
-use Rattle.net_procs.proofs.BodySteps.{if_fault, one_side, two_sides, case_left, order_here, order_whole, none_stands, stands_past, stands, item_on, items_first, item_here, item_skipped, items_whole}
+use Rattle.net_procs.proofs.BodySteps.{if_fault, one_fault, one_side, two_sides, case_left, order_here, order_whole, none_stands, stands_past, stands, item_on, items_first, item_here, item_skipped, items_whole}
 use Rattle.net_procs.proofs.body.+running.Goals as goal
 
 -- ---- statements
@@ -44,6 +44,12 @@ run-returns-in_err-choice-in-If-clause-builds t c =
     if_fault run_of f.design.now f.reads.now f.bits.now c.args.s.now _ c.in-If.test c.in-If.first c.in-If.other (run_of c.args.wires) c.args.net.now _ _ _ c.in-If.is
     (rw c.as_slice-in-If.ensures.value at c.in_err-choice-in-If.ensures.builds) c.from_residual.ensures
 
+pub run-returns-in_err-one-in-If-clause-builds : goal.run-returns-in_err-one-in-If-clause-builds
+run-returns-in_err-one-in-If-clause-builds t c =
+    let f = c.args.frame.now in
+    one_fault run_of run_of f.design.now f.reads.now f.bits.now c.args.s.now _ c.in-If.test c.in-If.first c.get.result.now c.in-If.other (run_of c.args.wires) c.args.net.now _ _ _ _ _ c.in-If.is c.get.ensures
+    (rw c.as_slice-in-If.ensures.value at c.in_ok-choice-in-If.ensures.builds) c.in_err-one-in-If.ensures.builds c.from_residual-in_err-one-in-If.ensures
+
 pub run-returns-in-None-clause-builds : goal.run-returns-in-None-clause-builds
 unfolding branch
 run-returns-in-None-clause-builds t c =
@@ -52,19 +58,10 @@ run-returns-in-None-clause-builds t c =
     let first = run f.design.now f.reads.now f.bits.now c.get.result.now in
     same_build _ _ (form-If f.design.now f.reads.now f.bits.now c.args.s.now _ c.in-If.test c.in-If.first c.get.result.now c.in-If.other r c.in-If.is c.in-None.is c.get.ensures)
     (last
-    (next _ _ (all_left (branch f.design.now f.reads.now f.bits.now c.in-If.test first (side None) r) c.args.net.now) (rw c.as_slice-in-If.ensures.value at c.in_ok-choice-in-If.ensures.builds)) c.run_if.ensures.builds)
-
-pub run-returns-in-Some-clause-builds : goal.run-returns-in-Some-clause-builds
-unfolding branch
-run-returns-in-Some-clause-builds t c =
-    let f = c.args.frame.now in
-    let r = run_of c.args.wires in
-    let first = run f.design.now f.reads.now f.bits.now c.get-in-Some.result.now in
-    let other = run f.design.now f.reads.now f.bits.now c.get-in-Some-2.result.now in
-    same_build _ _
-    (form-Either f.design.now f.reads.now f.bits.now c.args.s.now _ c.in-If.test c.in-If.first c.get-in-Some.result.now c.in-Some.other c.get-in-Some-2.result.now c.in-If.other r c.in-If.is c.in-Some.is c.get-in-Some.ensures c.get-in-Some-2.ensures)
-    (last
-    (next _ _ (all_left (branch f.design.now f.reads.now f.bits.now c.in-If.test first (side (Some other)) r) c.args.net.now) (rw c.as_slice-in-If.ensures.value at c.in_ok-choice-in-If.ensures.builds)) c.run_either.ensures.builds)
+    (one_side f.reads.now f.bits.now c.in_ok-choice-in-If.choice (run_of c.in_ok-one-in-If.one) r
+    (next _ _
+    (next _ _ (all_left (branch f.design.now f.reads.now f.bits.now c.in-If.test first (side None) r) c.args.net.now) (rw c.as_slice-in-If.ensures.value at c.in_ok-choice-in-If.ensures.builds)) c.in_ok-one-in-If.ensures.builds))
+    c.chosen.ensures.builds)
 
 pub run-returns-in_err-choice-in-Case-clause-builds : goal.run-returns-in_err-choice-in-Case-clause-builds
 run-returns-in_err-choice-in-Case-clause-builds t c =
@@ -77,24 +74,6 @@ run-returns-in_err-choice-in-Case-clause-builds t c =
     (fault _ _
     (case_left c.args.net.now d f.reads.now f.bits.now how how selector arms (run_of c.args.wires) (case_shape d selector (labels_of arms)) (is_full d how selector (labels_of arms)) (standing (is_full d how selector (labels_of arms)) arms) refl refl refl refl)
     (rw c.as_slice-nodes.ensures.value at c.in_err-choice-in-Case.ensures.builds) c.from_residual-in_err-choice-in-Case.ensures)
-
-pub run-returns-in_ok-choice-in-Case-clause-builds : goal.run-returns-in_ok-choice-in-Case-clause-builds
-run-returns-in_ok-choice-in-Case-clause-builds t c =
-    let f = c.args.frame.now in
-    let d = f.design.now in
-    let arms = c.as_slice-arms.result.now in
-    let choice = c.in_ok-choice-in-Case.choice in
-    same_build _ _ (form-Case d f.reads.now f.bits.now c.args.s.now _ c.in-Case.how c.in-Case.selector c.in-Case.arms arms (run_of c.args.wires) c.in-Case.is c.as_slice-arms.ensures)
-    (last
-    (next _ _
-    (case_left c.args.net.now d f.reads.now f.bits.now c.in-Case.how choice.how c.in-Case.selector arms (run_of c.args.wires) (shape_of choice.context) c.in_ok-full-in-Case.full c.standing.result
-    c.in_ok-choice-in-Case.ensures.how c.in_ok-choice-in-Case.ensures.shape c.in_ok-full-in-Case.ensures.value c.standing.ensures)
-    (rw c.as_slice-nodes.ensures.value at c.in_ok-choice-in-Case.ensures.builds)) c.run_items.ensures.builds)
-
-pub run-returns-in-For-clause-builds : goal.run-returns-in-For-clause-builds
-run-returns-in-For-clause-builds t c =
-    let f = c.args.frame.now in
-    same_build _ _ (form-For f.design.now f.reads.now f.bits.now c.args.s.now _ _ c.in-For.body c.get-in-For.result.now (run_of c.args.wires) c.in-For.is c.get-in-For.ensures) c.run.ensures.builds
 
 -- ---- statements in order
 
@@ -129,67 +108,15 @@ run_copy-returns-clause-builds t c =
     let f = c.args.frame.now in
     same_build _ _ (ap (run f.design.now f.reads.now f.bits.now c.args.s.now) c.in_ok-copy.ensures.run) c.run.ensures.builds
 
-pub run_if-chosen-requires-clause-other : goal.run_if-chosen-requires-clause-other
-run_if-chosen-requires-clause-other t c =
+pub run_other-returns-in_err-two-clause-builds : goal.run_other-returns-in_err-two-clause-builds
+run_other-returns-in_err-two-clause-builds t c =
     let f = c.args.frame.now in
-    fit_later f.design.now f.reads.now f.bits.now c.args.net.now c.run_copy.new.net (run_of c.args.wires) c.requires.fits c.in_ok-one.ensures.longer
+    fault _ _ (all_left (behind_one f c.args.choice (run_of c.args.one.now) (run f.design.now f.reads.now f.bits.now c.args.other.now) (run_of c.args.wires)) c.args.net.now) c.in_err-two.ensures.builds c.from_residual.ensures
 
-pub run_if-returns-in_err-one-clause-builds : goal.run_if-returns-in_err-one-clause-builds
-unfolding sides
-run_if-returns-in_err-one-clause-builds t c =
+pub run_other-returns-clause-builds : goal.run_other-returns-clause-builds
+run_other-returns-clause-builds t c =
     let f = c.args.frame.now in
-    fault _ _ (all_left (sides f.reads.now f.bits.now c.args.choice (run f.design.now f.reads.now f.bits.now c.args.first.now) (side None) (run_of c.args.wires)) c.args.net.now) c.in_err-one.ensures.builds c.from_residual.ensures
-
-pub run_if-returns-clause-builds : goal.run_if-returns-clause-builds
-unfolding sides
-run_if-returns-clause-builds t c =
-    let f = c.args.frame.now in
-    last
-    (one_side f.reads.now f.bits.now c.args.choice (run_of c.in_ok-one.one) (run_of c.args.wires)
-    (next _ _ (all_left (sides f.reads.now f.bits.now c.args.choice (run f.design.now f.reads.now f.bits.now c.args.first.now) (side None) (run_of c.args.wires)) c.args.net.now) c.in_ok-one.ensures.builds))
-    c.chosen.ensures.builds
-
-pub run_either-run-requires : goal.run_either-run-requires
-run_either-run-requires t c =
-    let f = c.args.frame.now in
-    (omega (arith, c.decreases), fit_later f.design.now f.reads.now f.bits.now c.args.net.now c.run_copy.new.net (run_of c.args.wires) c.requires.fits c.in_ok-one.ensures.longer)
-
-pub run_either-chosen-requires-clause-choice : goal.run_either-chosen-requires-clause-choice
-run_either-chosen-requires-clause-choice t c = lt_of_lt_of_le c.requires.choice (le_trans c.in_ok-one.ensures.longer c.in_ok-two.ensures.longer)
-
-pub run_either-chosen-requires-clause-first : goal.run_either-chosen-requires-clause-first
-run_either-chosen-requires-clause-first t c =
-    let f = c.args.frame.now in
-    fit_later f.design.now f.reads.now f.bits.now c.run_copy.new.net c.run.new.net (run_of c.in_ok-one.one) c.in_ok-one.ensures.fits c.in_ok-two.ensures.longer
-
-pub run_either-returns-in_err-one-clause-builds : goal.run_either-returns-in_err-one-clause-builds
-unfolding sides
-run_either-returns-in_err-one-clause-builds t c =
-    let f = c.args.frame.now in
-    let draws = run f.design.now f.reads.now f.bits.now in
-    fault _ _ (all_left (sides f.reads.now f.bits.now c.args.choice (draws c.args.first.now) (side (Some (draws c.args.other.now))) (run_of c.args.wires)) c.args.net.now) c.in_err-one.ensures.builds c.from_residual.ensures
-
-pub run_either-returns-in_err-two-clause-builds : goal.run_either-returns-in_err-two-clause-builds
-unfolding sides
-run_either-returns-in_err-two-clause-builds t c =
-    let f = c.args.frame.now in
-    let draws = run f.design.now f.reads.now f.bits.now in
-    fault _ _
-    (two_sides f.reads.now f.bits.now c.args.choice (run_of c.in_ok-one.one) (run_of c.args.wires) (draws c.args.other.now)
-    (next _ _ (all_left (sides f.reads.now f.bits.now c.args.choice (draws c.args.first.now) (side (Some (draws c.args.other.now))) (run_of c.args.wires)) c.args.net.now) c.in_ok-one.ensures.builds))
-    c.in_err-two.ensures.builds c.from_residual-in_err-two.ensures
-
-pub run_either-returns-clause-builds : goal.run_either-returns-clause-builds
-unfolding sides
-run_either-returns-clause-builds t c =
-    let f = c.args.frame.now in
-    let draws = run f.design.now f.reads.now f.bits.now in
-    last
-    (next _ _
-    (two_sides f.reads.now f.bits.now c.args.choice (run_of c.in_ok-one.one) (run_of c.args.wires) (draws c.args.other.now)
-    (next _ _ (all_left (sides f.reads.now f.bits.now c.args.choice (draws c.args.first.now) (side (Some (draws c.args.other.now))) (run_of c.args.wires)) c.args.net.now) c.in_ok-one.ensures.builds))
-    c.in_ok-two.ensures.builds)
-    c.chosen.ensures.builds
+    last (next _ _ (all_left (behind_one f c.args.choice (run_of c.args.one.now) (run f.design.now f.reads.now f.bits.now c.args.other.now) (run_of c.args.wires)) c.args.net.now) c.in_ok-two.ensures.builds) c.chosen.ensures.builds
 
 -- ---- items
 
@@ -214,13 +141,6 @@ pub run_standing-returns-then-arms-i-clause-fits : goal.run_standing-returns-the
 run_standing-returns-then-arms-i-clause-fits t c =
     let f = c.args.frame.now in
     fit_same run_of f.design.now f.reads.now f.bits.now c.args.net.now (run_of c.args.wires.now) c.copied-then-arms-i.result c.requires.fits c.copied-then-arms-i.ensures.run
-
-pub run_standing-returns-clause-builds : goal.run_standing-returns-clause-builds
-run_standing-returns-clause-builds t c =
-    let f = c.args.frame.now in
-    same_build _ _
-    (stands (run f.design.now f.reads.now f.bits.now) c.args.at c.in-Some.i c.args.arms.now c.index-arms-i.result c.get.result.now (run_of c.args.wires.now) c.in-Some.is (omega (arith, c.if-arms-i.false)) c.index-arms-i.is
-    (c.get.ensures ∙ ap (λ (m : Arm Stmt). m.body) (sym c.index-arms-i.is))) c.run_copy.ensures.builds
 
 pub run_item-run_copy-requires : goal.run_item-run_copy-requires
 run_item-run_copy-requires t c =
@@ -295,8 +215,8 @@ run_items-returns-in-Err-run_item-clause-builds t c =
     let draws = run f.design.now f.reads.now f.bits.now in
     let hit = any_hit f.design.now c.args.wires.now.seen.items choice.how (shape_of choice.context) choice.word.items in
     fault _ _
-    (item_here f.reads.now f.bits.now hit c.args.at draws c.args.arms.now (run_of c.args.wires.now) (c.loop-left.left - 1) c.loop-left.left c.index-arms-left-arm.result c.as_slice-labels.result.now c.get-body.result.now (run_of c.loop-left.rest)
-    (omega (arith, c.loop-left-test.true)) c.loop-left.invariant.inside c.index-arms-left-arm.is c.as_slice-labels.ensures c.get-body.ensures (sym c.is_at.ensures ∙ c.if-not-is_at.true) c.loop-left.invariant.above)
+    (item_here f.reads.now f.bits.now hit c.args.at draws c.args.arms.now (run_of c.args.wires.now) (c.loop-left.left - 1) c.loop-left.left c.index-arms-left.result c.as_slice-labels.result.now c.get-body.result.now (run_of c.loop-left.rest)
+    (omega (arith, c.loop-left-test.true)) c.loop-left.invariant.inside c.index-arms-left.is c.as_slice-labels.ensures c.get-body.ensures (sym c.is_at.ensures ∙ c.if-not-is_at.true) c.loop-left.invariant.above)
     c.in-Err-run_item.ensures.builds (refl, refl)
 
 pub run_items-loop-left-preserved-then-not-is_at : goal.run_items-loop-left-preserved-then-not-is_at
@@ -308,8 +228,8 @@ run_items-loop-left-preserved-then-not-is_at t c =
     record {
       above =
           next _ _
-          (item_here f.reads.now f.bits.now hit c.args.at draws c.args.arms.now (run_of c.args.wires.now) (c.loop-left.left - 1) c.loop-left.left c.index-arms-left-arm.result c.as_slice-labels.result.now c.get-body.result.now (run_of c.loop-left.rest)
-          (omega (arith, c.loop-left-test.true)) c.loop-left.invariant.inside c.index-arms-left-arm.is c.as_slice-labels.ensures c.get-body.ensures (sym c.is_at.ensures ∙ c.if-not-is_at.true) c.loop-left.invariant.above)
+          (item_here f.reads.now f.bits.now hit c.args.at draws c.args.arms.now (run_of c.args.wires.now) (c.loop-left.left - 1) c.loop-left.left c.index-arms-left.result c.as_slice-labels.result.now c.get-body.result.now (run_of c.loop-left.rest)
+          (omega (arith, c.loop-left-test.true)) c.loop-left.invariant.inside c.index-arms-left.is c.as_slice-labels.ensures c.get-body.ensures (sym c.is_at.ensures ∙ c.if-not-is_at.true) c.loop-left.invariant.above)
           c.in-Ok-run_item.ensures.builds;
       fits = c.in-Ok-run_item.ensures.fits;
       choice = choice_later c.loop-left.net c.run_item.new.net choice c.loop-left.invariant.choice c.in-Ok-run_item.ensures.longer;
@@ -326,8 +246,8 @@ run_items-loop-left-preserved t c =
     let hit = any_hit f.design.now c.args.wires.now.seen.items choice.how (shape_of choice.context) choice.word.items in
     record {
       above =
-          item_skipped f.reads.now f.bits.now hit c.args.at draws c.args.arms.now (run_of c.args.wires.now) (c.loop-left.left - 1) c.loop-left.left c.index-arms-left-arm.result (run_of c.loop-left.rest)
-          (omega (arith, c.loop-left-test.true)) c.loop-left.invariant.inside c.index-arms-left-arm.is (sym c.is_at.ensures ∙ c.if-not-is_at.false) c.loop-left.invariant.above;
+          item_skipped f.reads.now f.bits.now hit c.args.at draws c.args.arms.now (run_of c.args.wires.now) (c.loop-left.left - 1) c.loop-left.left c.index-arms-left.result (run_of c.loop-left.rest)
+          (omega (arith, c.loop-left-test.true)) c.loop-left.invariant.inside c.index-arms-left.is (sym c.is_at.ensures ∙ c.if-not-is_at.false) c.loop-left.invariant.above;
       fits = c.loop-left.invariant.fits;
       choice = c.loop-left.invariant.choice;
       start = c.loop-left.invariant.start;

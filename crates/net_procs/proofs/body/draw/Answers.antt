@@ -9,10 +9,6 @@ use Rattle.net_procs.proofs.Steps.{nothing_drawn, made_inside}
 use Rattle.net_procs.proofs.FitSteps.{fit_first}
 use Rattle.net_procs.proofs.body.draw.Goals as goal
 
-pub run-requires-clause-fits : goal.run-requires-clause-fits
-run-requires-clause-fits c =
-    fit_first c.args.design.now c.args.reads.now c.args.bits.now c.args.net.now c.args.nodes.now c.in_ok-seen.seen.items c.in_ok-becomes.becomes.items c.requires.has c.requires.reads c.requires.bits c.requires.nodes c.in_ok-seen.ensures.items c.in_ok-becomes.ensures.items
-
 pub returns-in_err-after-clause-builds : goal.returns-in_err-after-clause-builds
 unfolding drawn
 returns-in_err-after-clause-builds c =
