@@ -63,6 +63,21 @@ run-returns-in-None-clause-builds t c =
     (next _ _ (all_left (branch f.design.now f.reads.now f.bits.now c.in-If.test first (side None) r) c.args.net.now) (rw c.as_slice-in-If.ensures.value at c.in_ok-choice-in-If.ensures.builds)) c.in_ok-one-in-If.ensures.builds))
     c.chosen.ensures.builds)
 
+pub run-returns-in-If-clause-builds : goal.run-returns-in-If-clause-builds
+unfolding branch
+run-returns-in-If-clause-builds t c =
+    let f = c.args.frame.now in
+    let r = run_of c.args.wires in
+    let first = run f.design.now f.reads.now f.bits.now c.get.result.now in
+    let other = run f.design.now f.reads.now f.bits.now c.get-in-Some.result.now in
+    same_build _ _
+    (form-Either f.design.now f.reads.now f.bits.now c.args.s.now _ c.in-If.test c.in-If.first c.get.result.now c.in-Some.other c.get-in-Some.result.now c.in-If.other r c.in-If.is c.in-Some.is c.get.ensures c.get-in-Some.ensures)
+    (last
+    (two_sides f.reads.now f.bits.now c.in_ok-choice-in-If.choice (run_of c.in_ok-one-in-If.one) r other
+    (next _ _
+    (next _ _ (all_left (branch f.design.now f.reads.now f.bits.now c.in-If.test first (side (Some other)) r) c.args.net.now) (rw c.as_slice-in-If.ensures.value at c.in_ok-choice-in-If.ensures.builds)) c.in_ok-one-in-If.ensures.builds))
+    c.run_other.ensures.builds)
+
 pub run-returns-in_err-choice-in-Case-clause-builds : goal.run-returns-in_err-choice-in-Case-clause-builds
 run-returns-in_err-choice-in-Case-clause-builds t c =
     let f = c.args.frame.now in
@@ -74,6 +89,24 @@ run-returns-in_err-choice-in-Case-clause-builds t c =
     (fault _ _
     (case_left c.args.net.now d f.reads.now f.bits.now how how selector arms (run_of c.args.wires) (case_shape d selector (labels_of arms)) (is_full d how selector (labels_of arms)) (standing (is_full d how selector (labels_of arms)) arms) refl refl refl refl)
     (rw c.as_slice-nodes.ensures.value at c.in_err-choice-in-Case.ensures.builds) c.from_residual-in_err-choice-in-Case.ensures)
+
+pub run-returns-in-Case-clause-builds : goal.run-returns-in-Case-clause-builds
+run-returns-in-Case-clause-builds t c =
+    let f = c.args.frame.now in
+    let d = f.design.now in
+    let arms = c.as_slice-arms.result.now in
+    let choice = c.in_ok-choice-in-Case.choice in
+    same_build _ _ (form-Case d f.reads.now f.bits.now c.args.s.now _ c.in-Case.how c.in-Case.selector c.in-Case.arms arms (run_of c.args.wires) c.in-Case.is c.as_slice-arms.ensures)
+    (last
+    (next _ _
+    (case_left c.args.net.now d f.reads.now f.bits.now c.in-Case.how choice.how c.in-Case.selector arms (run_of c.args.wires) (shape_of choice.context) c.in_ok-full-in-Case.full c.standing.result
+    c.in_ok-choice-in-Case.ensures.how c.in_ok-choice-in-Case.ensures.shape c.in_ok-full-in-Case.ensures.value c.standing.ensures)
+    (rw c.as_slice-nodes.ensures.value at c.in_ok-choice-in-Case.ensures.builds)) c.run_items.ensures.builds)
+
+pub run-returns-clause-builds : goal.run-returns-clause-builds
+run-returns-clause-builds t c =
+    let f = c.args.frame.now in
+    same_build _ _ (form-For f.design.now f.reads.now f.bits.now c.args.s.now _ _ c.in-For.body c.get-in-For.result.now (run_of c.args.wires) c.in-For.is c.get-in-For.ensures) c.run.ensures.builds
 
 -- ---- statements in order
 
@@ -141,6 +174,14 @@ pub run_standing-returns-then-arms-i-clause-fits : goal.run_standing-returns-the
 run_standing-returns-then-arms-i-clause-fits t c =
     let f = c.args.frame.now in
     fit_same run_of f.design.now f.reads.now f.bits.now c.args.net.now (run_of c.args.wires.now) c.copied-then-arms-i.result c.requires.fits c.copied-then-arms-i.ensures.run
+
+pub run_standing-returns-else-arms-i-clause-builds : goal.run_standing-returns-else-arms-i-clause-builds
+run_standing-returns-else-arms-i-clause-builds t c =
+    let f = c.args.frame.now in
+    same_build _ _
+    (stands (run f.design.now f.reads.now f.bits.now) c.args.at c.in-Some.i c.args.arms.now c.index-arms-i.result c.get.result.now (run_of c.args.wires.now) c.in-Some.is (omega (arith, c.if-arms-i.false)) c.index-arms-i.is
+    (c.get.ensures ∙ ap (λ (m : Arm Stmt). m.body) (sym c.index-arms-i.is)))
+    c.run_copy.ensures.builds
 
 pub run_item-run_copy-requires : goal.run_item-run_copy-requires
 run_item-run_copy-requires t c =
