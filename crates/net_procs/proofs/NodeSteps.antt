@@ -6,7 +6,6 @@ use Rattle.net_words.specs.Builds.{Build, ◌>>=◌, return}
 use Rattle.net_words.specs.Bits.{mux}
 use Rattle.net_words.specs.Words.{select}
 use Rattle.net_words.proofs.BuildLemmas.{IsLeft, all_left}
-use Rattle.net_words.proofs.WordSteps.{drop_here}
 use Rattle.net_exprs.specs.Names.{node_at}
 use Rattle.proc_values.specs.Runs.{is_among}
 use Rattle.net_procs.specs.declared.stroke.Stroke.{Stroke}

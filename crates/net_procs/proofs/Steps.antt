@@ -1,5 +1,5 @@
 -- Serves calls that draw: steps that draw nothing, steps that are made of steps, and what is the same.
-use Rattle.std.proofs.Common.{◌≡◌, ℕ, zero, suc, ◌<◌, All, List, [], ◌∷◌, length, get_or, arith, Option, Some, None, Result, Ok, Err, IfOk, IfErr, refl, sym, ap, subst, ◌∙◌}
+use Rattle.std.proofs.Common.{◌≡◌, ℕ, zero, suc, ◌<◌, All, List, [], ◌∷◌, length, get_or, arith, Option, Some, None, Result, Ok, Err, IfOk, IfErr, refl, sym, subst}
 use Rattle.net_view.specs.View.{Numbered}
 use Rattle.net_gates.specs.declared.fault.GateFault.{GateFault}
 use Rattle.net_gates.specs.declared.fault.GateFault.TheVariants.{Memory}

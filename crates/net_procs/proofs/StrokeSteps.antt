@@ -1,5 +1,5 @@
 -- Serves src/strokes.rt: strokes so far, and those that are left; and nodes of strokes, which are there.
-use Rattle.std.proofs.Common.{◌≡◌, ℕ, ◌+◌, ◌-◌, ◌<◌, ◌≤◌, ◌^◌, min, List, [], ◌∷◌, ◌++◌, All, length, map, take, drop, get_or, refl, sym, ap, ◌∙◌, arith, Option, None, Some, IfSome, append-nil, append_assoc, lt_of_lt_of_le}
+use Rattle.std.proofs.Common.{◌≡◌, ℕ, ◌+◌, ◌<◌, ◌≤◌, ◌^◌, min, List, [], ◌∷◌, ◌++◌, All, length, map, take, drop, get_or, refl, sym, ap, ◌∙◌, arith, Option, None, Some, IfSome, append-nil, append_assoc, lt_of_lt_of_le}
 use Rattle.std.proofs.lemmas.List.{drop_all, drop_more, length-drop, length-take, length-map}
 use Rattle.std.proofs.lemmas.List.Elements.{All-nil, All-cons, All-head, All-tail, All-append, All-take}
 use Rattle.vlog_tree.specs.declared.expr.Part.{Part}

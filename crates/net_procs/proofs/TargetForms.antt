@@ -1,5 +1,5 @@
 -- How each form of target is written.
-use Rattle.std.proofs.Common.{◌≡◌, ℕ, List, [], map, refl, sym, ap, ◌∙◌}
+use Rattle.std.proofs.Common.{◌≡◌, ℕ, List, [], map, sym, ap, ◌∙◌}
 use Rattle.rdc_outside.specs.declared.source.Place.{Place}
 use Rattle.vlog_tree.specs.declared.expr.Expr.{Expr, Expr-F, para-roll-Expr}
 use Rattle.vlog_tree.specs.declared.expr.Expr.TheVariants as e
@@ -10,8 +10,7 @@ use Rattle.vlog_tree.specs.declared.operator.Unary.{Unary}
 use Rattle.vlog_tree.specs.declared.operator.Binary.{Binary}
 use Rattle.design_form.specs.declared.parts.Parts.{Parts}
 use Rattle.elab_bits.specs.Selects.{all_bits, constant}
-use Rattle.net_words.specs.Builds.{Build, return}
-use Rattle.net_procs.specs.declared.stroke.Stroke.{Stroke}
+use Rattle.net_words.specs.Builds.{return}
 use Rattle.net_procs.specs.Targets.{Written, onto_all, onto_select, select_strokes, onto_members, strokes, strokes_by_parts}
 
 -- as it is written

@@ -24,7 +24,7 @@ use Rattle.net_words.specs.Words.{any}
 use Rattle.net_exprs.specs.Names.{wired_in}
 use Rattle.net_exprs.specs.Lowered.{built_of, built_in, built_within}
 use Rattle.net_procs.specs.declared.stroke.Stroke.{Stroke}
-use Rattle.net_procs.specs.Runs.{Run, Step, struck, chosen, nodes_of}
+use Rattle.net_procs.specs.Runs.{Step, struck, chosen, nodes_of}
 use Rattle.net_procs.specs.Targets.{strokes}
 use Rattle.net_procs.specs.Labels.{any_hit}
 use Rattle.net_procs.specs.Cases.{case_run}

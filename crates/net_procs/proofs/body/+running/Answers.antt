@@ -1,15 +1,13 @@
-use Rattle.std.proofs.Common.{◌≡◌, ℕ, ◌+◌, ◌-◌, ◌<◌, ◌≤◌, ◌∙◌, List, Some, None, Option, Bool, length, map, refl, sym, ap, subst, arith, le_trans, lt_of_lt_of_le}
-use Rattle.vlog_tree.specs.declared.expr.Expr.{Expr}
+use Rattle.std.proofs.Common.{◌-◌, ◌∙◌, Some, None, map, refl, sym, ap, subst, arith, le_trans}
 use Rattle.vlog_tree.specs.declared.stmt.Arm.{Arm}
 use Rattle.vlog_tree.specs.declared.stmt.Stmt.{Stmt}
 use Rattle.design_form.specs.Extents.{shape_of}
 use Rattle.design_sizes.specs.Sizes.{case_shape}
 use Rattle.proc_cases.specs.Full.{is_full, labels_of}
-use Rattle.net_words.specs.Builds.{Build, ◌>>=◌, return}
+use Rattle.net_words.specs.Builds.{return}
 use Rattle.net_words.proofs.BuildLemmas.{all_left, next, fault, last, done}
 use Rattle.net_exprs.proofs.Transport.{same_build}
 use Rattle.proc_values.specs.Cases.{standing, with_body}
-use Rattle.net_procs.specs.Runs.{Run, Step}
 use Rattle.net_procs.specs.Bodies.{branch, side, run}
 use Rattle.net_procs.specs.Cases.{body_at, item}
 use Rattle.net_procs.specs.Labels.{any_hit}
@@ -17,7 +15,7 @@ use Rattle.net_procs.specs.Ready.{run_of, behind_one, IsFit}
 use Rattle.net_procs.proofs.Steps.{nothing_drawn}
 use Rattle.net_procs.proofs.FitSteps.{fit_later, fit_same, choice_later}
 use Rattle.net_procs.proofs.BodyForms.{form-Empty, form-Block, form-Assign, form-If, form-Either, form-Case, form-For}
-use Rattle.net_procs.proofs.BodySteps.{if_fault, one_fault, one_side, two_sides, case_left, order_here, order_whole, none_stands, stands_past, stands, item_on, items_first, item_here, item_skipped, items_whole}
+use Rattle.net_procs.proofs.BodySteps.{if_fault, one_fault, one_side, two_sides, case_left, order_here, order_whole, none_stands, stands_past, stands, items_first, item_here, item_skipped, items_whole}
 use Rattle.net_procs.proofs.body.+running.Goals as goal
 
 -- ---- statements

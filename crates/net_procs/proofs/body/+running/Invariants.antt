@@ -4,7 +4,7 @@ use Rattle.design_form.specs.Extents.{shape_of}
 use Rattle.net_words.proofs.BuildLemmas.{IsLeft}
 use Rattle.proc_values.specs.Cases.{with_body}
 use Rattle.net_procs.specs.Bodies.{in_order, run}
-use Rattle.net_procs.specs.Cases.{body_at, case_run}
+use Rattle.net_procs.specs.Cases.{case_run}
 use Rattle.net_procs.specs.Labels.{any_hit}
 use Rattle.net_procs.specs.Ready.{run_of, IsChoice, IsFit}
 use Rattle.net_procs.proofs.Steps.{down}

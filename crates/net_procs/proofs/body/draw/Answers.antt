@@ -1,12 +1,10 @@
-use Rattle.std.proofs.Common.{◌≡◌, ◌<◌, ℕ, List, length, ◌∙◌}
+use Rattle.std.proofs.Common.{◌<◌, ℕ, length}
 use Rattle.net_words.proofs.BuildLemmas.{all_left, next, fault, last}
 use Rattle.net_exprs.proofs.NameSteps.{nodes_there}
 use Rattle.net_exprs.proofs.Transport.{same_build}
 use Rattle.net_procs.specs.Runs.{nodes_of}
 use Rattle.net_procs.specs.Bodies.{run, drawn}
-use Rattle.net_procs.specs.Ready.{run_of}
 use Rattle.net_procs.proofs.Steps.{nothing_drawn, made_inside}
-use Rattle.net_procs.proofs.FitSteps.{fit_first}
 use Rattle.net_procs.proofs.body.draw.Goals as goal
 
 pub returns-in_err-after-clause-builds : goal.returns-in_err-after-clause-builds

@@ -1,4 +1,4 @@
-use Rattle.std.proofs.Common.{◌≡◌, ◌∙◌}
+use Rattle.std.proofs.Common.{◌∙◌}
 use Rattle.std.proofs.lemmas.List.{get_or_default}
 use Rattle.net_words.proofs.BuildLemmas.{done, next, fault}
 use Rattle.net_procs.proofs.NodeSteps.{always, where_hit}

@@ -1,4 +1,4 @@
-use Rattle.std.proofs.Common.{◌≡◌, ◌∙◌, le_trans}
+use Rattle.std.proofs.Common.{◌∙◌, le_trans}
 use Rattle.net_words.proofs.BuildLemmas.{done, next, fault}
 use Rattle.net_procs.proofs.NodeSteps.{struck_here, struck_end}
 use Rattle.net_procs.proofs.changes.strike.Goals as goal

@@ -1,4 +1,4 @@
-use Rattle.std.proofs.Common.{◌≡◌, length, ◌<◌, arith, le_trans, ◌∷◌, [], get_or, sym, ◌∙◌}
+use Rattle.std.proofs.Common.{length, ◌<◌, arith, le_trans, get_or, sym, ◌∙◌}
 use Rattle.std.proofs.lemmas.List.Elements.{All-nil}
 use Rattle.net_words.proofs.BuildLemmas.{no_bits, next, fault, done}
 use Rattle.net_words.proofs.WordSteps.{one_more}

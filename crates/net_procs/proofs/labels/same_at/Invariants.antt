@@ -1,4 +1,4 @@
-use Rattle.std.proofs.Common.{◌≡◌, ◌≤◌, length, drop}
+use Rattle.std.proofs.Common.{◌≤◌, length, drop}
 use Rattle.net_words.specs.Builds.{AreThere}
 use Rattle.net_words.proofs.BuildLemmas.{behind, IsLeft}
 use Rattle.net_procs.specs.Labels.{same_at}

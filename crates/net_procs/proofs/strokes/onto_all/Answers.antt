@@ -1,4 +1,4 @@
-use Rattle.std.proofs.Common.{arith, ◌≡◌, ◌≤◌, min, length}
+use Rattle.std.proofs.Common.{arith, ◌≤◌, min, length}
 use Rattle.net_procs.proofs.StrokeSteps.{all_more, all_end}
 use Rattle.net_procs.proofs.strokes.onto_all.Goals as goal
 

@@ -1,9 +1,8 @@
-use Rattle.std.proofs.Common.{◌≡◌, ◌<◌, ◌-◌, ◌∙◌, List, [], length, arith, le_trans, refl, Ok, inl, inr}
+use Rattle.std.proofs.Common.{◌≡◌, ◌-◌, [], length, arith, le_trans, refl, Ok, inl, inr}
 use Rattle.std.proofs.lemmas.List.Elements.{All-nil, All-append}
 use Rattle.elab_bits.specs.Selects.{all_bits}
 use Rattle.net_words.specs.Builds.{return}
 use Rattle.net_words.proofs.BuildLemmas.{next, fault, done}
-use Rattle.net_words.proofs.WordSteps.{still_there}
 use Rattle.net_exprs.proofs.Transport.{same_build}
 use Rattle.net_procs.specs.Ready.{IsStroke}
 use Rattle.net_procs.specs.Targets.{onto_all, strokes}

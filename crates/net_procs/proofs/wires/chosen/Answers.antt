@@ -1,4 +1,4 @@
-use Rattle.std.proofs.Common.{◌≡◌, ◌∙◌}
+use Rattle.std.proofs.Common.{◌∙◌}
 use Rattle.std.proofs.lemmas.List.{with_items_is}
 use Rattle.net_words.proofs.BuildLemmas.{done, next, fault}
 use Rattle.net_procs.specs.Ready.{run_of}

@@ -1,4 +1,4 @@
-use Rattle.std.proofs.Common.{◌≡◌, ◌∙◌}
+use Rattle.std.proofs.Common.{◌∙◌}
 use Rattle.net_procs.proofs.wires.copied.Goals as goal
 
 pub returns-clause-run : goal.returns-clause-run

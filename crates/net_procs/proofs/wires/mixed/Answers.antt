@@ -1,4 +1,4 @@
-use Rattle.std.proofs.Common.{◌≡◌, ◌∙◌, ◌<◌, ℕ, List, length, subst, sym}
+use Rattle.std.proofs.Common.{◌∙◌, ℕ, List, length, subst, sym}
 use Rattle.net_words.specs.Builds.{AreThere}
 use Rattle.net_words.proofs.BuildLemmas.{done, next, fault}
 use Rattle.net_words.proofs.WordSteps.{still_there}

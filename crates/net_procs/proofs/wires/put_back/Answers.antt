@@ -1,4 +1,4 @@
-use Rattle.std.proofs.Common.{◌≡◌, ℕ, ◌<◌, arith, ◌∙◌, subst, sym}
+use Rattle.std.proofs.Common.{ℕ, ◌<◌, arith, ◌∙◌, subst, sym}
 use Rattle.net_procs.proofs.NodeSteps.{scattered_here, scattered_end}
 use Rattle.net_procs.proofs.wires.put_back.Goals as goal
 

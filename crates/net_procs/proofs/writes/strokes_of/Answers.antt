@@ -1,5 +1,4 @@
 use Rattle.net_words.proofs.BuildLemmas.{all_left, next, last, fault}
-use Rattle.net_exprs.proofs.Transport.{same_build}
 use Rattle.net_procs.specs.Bodies.{strokes_of}
 use Rattle.net_procs.proofs.writes.strokes_of.Goals as goal
 

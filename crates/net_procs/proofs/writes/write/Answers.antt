@@ -1,7 +1,6 @@
-use Rattle.std.proofs.Common.{◌≡◌, ◌∙◌, refl, ap, sym}
+use Rattle.std.proofs.Common.{◌∙◌, refl}
 use Rattle.std.proofs.lemmas.List.{with_items_is}
 use Rattle.net_words.proofs.BuildLemmas.{done, next, fault}
-use Rattle.vlog_tree.specs.declared.stmt.Assigns.TheVariants.{Blocking, Nonblocking}
 use Rattle.net_procs.specs.Ready.{run_of}
 use Rattle.net_procs.proofs.NodeSteps.{strike_left, blocking_left, nonblocking_left, struck_alike, returned}
 use Rattle.net_procs.proofs.writes.write.Goals as goal
