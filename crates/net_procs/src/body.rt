@@ -54,15 +54,8 @@ fn run(
             let (nodes, arms) = (wires.seen.as_slice(), arms.as_slice());
             let full = is_full(alloc, frame.design, *how, selector, arms)?;
             let choice = choice_of(alloc, net, frame.design, nodes, *how, selector, arms)?;
-            run_items(
-                alloc,
-                net,
-                frame,
-                &choice,
-                standing(full, arms),
-                arms,
-                &wires,
-            )
+            let at = standing(full, arms);
+            run_items(alloc, net, frame, &choice, at, arms, &wires)
         }
         Stmt::For(_, _, body) => run(alloc, net, frame, body.get(), wires),
     }

@@ -97,8 +97,8 @@ run-returns-in-Case-clause-builds t c =
     same_build _ _ (form-Case d f.reads.now f.bits.now c.args.s.now _ c.in-Case.how c.in-Case.selector c.in-Case.arms arms (run_of c.args.wires) c.in-Case.is c.as_slice-arms.ensures)
     (last
     (next _ _
-    (case_left c.args.net.now d f.reads.now f.bits.now c.in-Case.how choice.how c.in-Case.selector arms (run_of c.args.wires) (shape_of choice.context) c.in_ok-full-in-Case.full c.standing.result
-    c.in_ok-choice-in-Case.ensures.how c.in_ok-choice-in-Case.ensures.shape c.in_ok-full-in-Case.ensures.value c.standing.ensures)
+    (case_left c.args.net.now d f.reads.now f.bits.now c.in-Case.how choice.how c.in-Case.selector arms (run_of c.args.wires) (shape_of choice.context) c.in_ok-full-in-Case.full c.standing-at.result
+    c.in_ok-choice-in-Case.ensures.how c.in_ok-choice-in-Case.ensures.shape c.in_ok-full-in-Case.ensures.value c.standing-at.ensures)
     (rw c.as_slice-nodes.ensures.value at c.in_ok-choice-in-Case.ensures.builds)) c.run_items.ensures.builds)
 
 pub run-returns-clause-builds : goal.run-returns-clause-builds
