@@ -19,3 +19,7 @@ mod wired;
 
 pub use laws::{expressions_are_worth, expressions_keep_shapes};
 pub use lowering::{lower, lower_alone, lower_within};
+#[doc(hidden)]
+pub use picks::{Select, hits};
+#[doc(hidden)]
+pub use sizes::extent;

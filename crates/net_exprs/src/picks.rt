@@ -27,10 +27,10 @@ struct Start {
 
 /// A select by an index: how it is written, the range, and the width.
 #[derive(Clone, Copy)]
-pub(crate) struct Select {
-    pub(crate) part: Part,
-    pub(crate) range: Bounds,
-    pub(crate) width: usize,
+pub struct Select {
+    pub part: Part,
+    pub range: Bounds,
+    pub width: usize,
 }
 
 /// The index at a start, counted from below.
@@ -126,7 +126,7 @@ fn hit(
 }
 
 /// Which of the starts an index is.
-fn hits(
+pub fn hits(
     alloc: Global,
     net: &mut GateList,
     select: Select,

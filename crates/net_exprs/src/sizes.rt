@@ -15,7 +15,7 @@ use vlog_const::{Family, family};
 use vlog_tree::{Binary, Expr, Unary};
 
 /// The shape of an expression by itself.
-pub(crate) fn extent(alloc: Global, design: &Design, e: &Expr) -> Result<Extent, GateFault>
+pub fn extent(alloc: Global, design: &Design, e: &Expr) -> Result<Extent, GateFault>
     ensures shape { IfOk result (λ x. (nodes : List ℕ) → shape_of x ≡ (lowered (wired_in design.now nodes) e.now).shape) }
     ensures fault { IfErr result (λ fault. fault ≡ Memory) }
 {

@@ -35,7 +35,7 @@ if_some d reads bits st place test a b x y other r hit is some body-is other-is 
     (λ k. chosen reads bits (hit-is k) (run d reads bits (body-is k) r) (run d reads bits (other-is k) r))
     ∙ sym (ap (λ (f : Step). f r) (ap (run d reads bits) (is ∙ ap (s.If place test a) some) ∙ run-If-Some d reads bits place test a x))
 
-labels_kept : {S T : Type 0} (f : S → T) (arms : List (Arm S)) → labels_of (map (with_body f) arms) ≡ labels_of arms
+pub labels_kept : {S T : Type 0} (f : S → T) (arms : List (Arm S)) → labels_of (map (with_body f) arms) ≡ labels_of arms
 labels_kept f [] = refl
 labels_kept f (a ∷ arms) = ap (λ (l : List Expr). a.labels ++ l) (labels_kept f arms)
 
@@ -44,7 +44,7 @@ unfolding default_from
 default_kept f i [] = refl
 default_kept f i (a ∷ arms) = ap (λ (o : Option ℕ). if length a.labels == 0 then Some i else o) (default_kept f (i + 1) arms)
 
-standing_kept : {S T : Type 0} (f : S → T) (full : Bool) (arms : List (Arm S)) → standing full (map (with_body f) arms) ≡ standing full arms
+pub standing_kept : {S T : Type 0} (f : S → T) (full : Bool) (arms : List (Arm S)) → standing full (map (with_body f) arms) ≡ standing full arms
 unfolding standing_or
 standing_kept {S} {T} f full arms = ap (standing_or full (map (with_body f) arms)) (default_kept f 0 arms) ∙ by full (default_from 0 arms)
   where

@@ -1,13 +1,13 @@
-mod HitLemmas
-mod StrokeLemmas
-mod ShapeLemmas
-mod TargetForms
-mod MemberLemmas
-mod SizeLemmas
-mod ContextLemmas
-mod LabelForms
-mod LabelLemmas
-mod ChangeLemmas
-mod BodyForms
-mod RunLemmas
-mod CaseLemmas
+pub mod HitLemmas
+pub mod StrokeLemmas
+pub mod ShapeLemmas
+pub mod TargetForms
+pub mod MemberLemmas
+pub mod SizeLemmas
+pub mod ContextLemmas
+pub mod LabelForms
+pub mod LabelLemmas
+pub mod ChangeLemmas
+pub mod BodyForms
+pub mod RunLemmas
+pub mod CaseLemmas

@@ -57,7 +57,7 @@ fn default_of(arms: &[Arm<Boxed<Stmt>>]) -> Option<usize>
 
 /// The number of the item that stands for the default.
 #[tactic(auto, unfolding(crate::specs::Cases::standing_or))]
-pub(crate) fn standing(full: bool, arms: &[Arm<Boxed<Stmt>>]) -> Option<usize>
+pub fn standing(full: bool, arms: &[Arm<Boxed<Stmt>>]) -> Option<usize>
     ensures { result ≡ standing full arms.now }
 {
     match default_of(arms) {
@@ -74,7 +74,7 @@ pub(crate) fn standing(full: bool, arms: &[Arm<Boxed<Stmt>>]) -> Option<usize>
 
 /// Whether an item is the one that stands for the default.
 #[tactic(auto, unfolding(crate::specs::Cases::is_at))]
-pub(crate) fn is_at(at: Option<usize>, i: usize) -> bool
+pub fn is_at(at: Option<usize>, i: usize) -> bool
     ensures { result ≡ is_at at i }
 {
     match at {

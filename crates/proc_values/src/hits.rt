@@ -15,10 +15,10 @@ use vlog_tree::Part;
 
 /// A select of bits: how it is written, the range of its signal, and its width.
 #[derive(Clone, Copy)]
-pub(crate) struct Select {
-    pub(crate) part: Part,
-    pub(crate) range: Bounds,
-    pub(crate) width: usize,
+pub struct Select {
+    pub part: Part,
+    pub range: Bounds,
+    pub width: usize,
 }
 
 /// Whether a number has no more than so many bits.

@@ -11,7 +11,7 @@ use vlog_tree::Expr;
 
 /// An index as a number, where it is constant.
 #[tactic(auto, unfolding(elab_bits::specs::Selects::constant, elab_bits::specs::Selects::number_if))]
-pub(crate) fn constant(alloc: Global, e: &Expr) -> Result<Option<Whole>, EvalFault>
+pub fn constant(alloc: Global, e: &Expr) -> Result<Option<Whole>, EvalFault>
     ensures { IfOk result (λ i. i ≡ constant e.now) }
 {
     match value(alloc, e, &Env::new(alloc)) {
@@ -23,7 +23,7 @@ pub(crate) fn constant(alloc: Global, e: &Expr) -> Result<Option<Whole>, EvalFau
 
 /// What an expression is as a number, or 0 where it is no constant.
 #[tactic(auto, unfolding(design_form::specs::Values::number_of))]
-pub(crate) fn number(alloc: Global, e: &Expr) -> Result<Whole, EvalFault>
+pub fn number(alloc: Global, e: &Expr) -> Result<Whole, EvalFault>
     ensures { IfOk result (λ n. n ≡ number_alone e.now) }
 {
     match value(alloc, e, &Env::new(alloc)) {
@@ -48,7 +48,7 @@ fn possible(width: u128) -> Result<usize, EvalFault>
 }
 
 /// What an expression is as a count, or 0 where it is no constant.
-pub(crate) fn count(alloc: Global, e: &Expr) -> Result<usize, EvalFault>
+pub fn count(alloc: Global, e: &Expr) -> Result<usize, EvalFault>
     ensures value { IfOk result (λ n. n ≡ count_alone e.now) }
     ensures bound { IfOk result (λ n. n < 2 ^ 63) }
 {
@@ -57,7 +57,7 @@ pub(crate) fn count(alloc: Global, e: &Expr) -> Result<usize, EvalFault>
 
 /// How many indices stand from `first` to `second` in the direction of the range.
 #[tactic(auto, unfolding(design_form::specs::Selects::part_width))]
-pub(crate) fn part_width(range: Bounds, first: Whole, second: Whole) -> Result<usize, EvalFault>
+pub fn part_width(range: Bounds, first: Whole, second: Whole) -> Result<usize, EvalFault>
     ensures value { IfOk result (λ n. n ≡ part_width range first second) }
     ensures bound { IfOk result (λ n. n < 2 ^ 63) }
 {

@@ -112,7 +112,12 @@ fn fitted_part(alloc: Global, design: &Design, e: &Expr) -> Result<Vec<bool>, Ev
 
 /// Positions that don't count.
 #[tactic(auto, unfolding(crate::specs::Labels::free_in))]
-fn free_in(alloc: Global, design: &Design, how: Matching, e: &Expr) -> Result<Vec<bool>, EvalFault>
+pub fn free_in(
+    alloc: Global,
+    design: &Design,
+    how: Matching,
+    e: &Expr,
+) -> Result<Vec<bool>, EvalFault>
     ensures { IfOk result (λ f. f.items ≡ free_in design.now how e.now) }
 {
     match how {

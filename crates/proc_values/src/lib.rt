@@ -25,4 +25,18 @@ mod writes;
 
 pub use body::run_body;
 #[doc(hidden)]
+pub use cases::{is_at, standing};
+#[doc(hidden)]
+pub use hits::Select;
+#[doc(hidden)]
+pub use indices::{constant, count, number, part_width};
+#[doc(hidden)]
+pub use labels::free_in;
+#[doc(hidden)]
+pub use sizes::case_size;
+#[doc(hidden)]
 pub use stroke::Stroke;
+#[doc(hidden)]
+pub use strokes::{fixed_start, reached};
+#[doc(hidden)]
+pub use targets::{all_bits, low_end, range_of, width_of};

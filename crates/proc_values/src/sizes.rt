@@ -54,7 +54,7 @@ fn arms_size(
 }
 
 /// The size of a selector and all labels together.
-pub(crate) fn case_size(
+pub fn case_size(
     alloc: Global,
     design: &Design,
     selector: &Expr,

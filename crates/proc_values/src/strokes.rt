@@ -24,7 +24,7 @@ fn place_less(bits: &[u32], a: u128, b: u128) -> Option<u32>
 
 /// A bit of the select from a start.
 #[tactic(auto, unfolding(crate::specs::Targets::reached))]
-fn reached(select: Select, bits: &[u32], start: u128, place: usize) -> Option<u32>
+pub fn reached(select: Select, bits: &[u32], start: u128, place: usize) -> Option<u32>
     requires start { start < 2 ^ 101 }
     ensures { result ≡ reached select.range bits.now select.width start place }
 {
@@ -119,7 +119,7 @@ fn less(a: u128, b: u128) -> Option<u128>
 
 /// The start number of a constant index.
 #[tactic(auto, unfolding(crate::specs::Targets::fixed_start))]
-fn fixed_start(select: Select, index: Whole) -> Option<u128>
+pub fn fixed_start(select: Select, index: Whole) -> Option<u128>
     requires { index.magnitude < 2 ^ 100 }
     ensures start { result ≡ fixed_start select.part select.range select.width index }
     ensures small { IfSome result (λ i. i < 2 ^ 101) }

@@ -17,7 +17,7 @@ use vlog_tree::{Expr, Part};
 
 /// All bits of a signal, least significant first.
 #[tactic(auto, unfolding(elab_bits::specs::Selects::all_bits, elab_bits::specs::Selects::listed))]
-fn all_bits<'a>(design: &'a Design, name: &[u8]) -> &'a [u32]
+pub fn all_bits<'a>(design: &'a Design, name: &[u8]) -> &'a [u32]
     ensures { result.now ≡ all_bits design.now.signals name.now }
 {
     match design.bits_of(name) {
@@ -28,7 +28,7 @@ fn all_bits<'a>(design: &'a Design, name: &[u8]) -> &'a [u32]
 
 /// The range of a signal.
 #[tactic(auto, unfolding(elab_bits::specs::Selects::range_of, elab_bits::specs::Selects::ranged))]
-fn range_of(design: &Design, name: &[u8]) -> Bounds
+pub fn range_of(design: &Design, name: &[u8]) -> Bounds
     ensures { result ≡ range_of design.now.signals name.now }
 {
     match design.signal(name) {
@@ -38,7 +38,7 @@ fn range_of(design: &Design, name: &[u8]) -> Bounds
 }
 
 /// How wide an expression is.
-pub(crate) fn width_of(alloc: Global, design: &Design, e: &Expr) -> Result<usize, EvalFault>
+pub fn width_of(alloc: Global, design: &Design, e: &Expr) -> Result<usize, EvalFault>
     ensures value { IfOk result (λ n. n ≡ (shape_of design.now e.now).width) }
     ensures bound { IfOk result (λ n. n < 2 ^ 64) }
 {
@@ -77,7 +77,7 @@ fn put_select(
 
 /// The lowest index of `[first : second]`.
 #[tactic(auto, unfolding(crate::specs::Targets::low_end))]
-fn low_end(range: Bounds, first: Whole, second: Whole) -> Whole
+pub fn low_end(range: Bounds, first: Whole, second: Whole) -> Whole
     ensures { result ≡ low_end range first second }
 {
     if range.is_down() { second } else { first }

@@ -1,0 +1,10 @@
+pub mod Steps
+pub mod FitSteps
+pub mod NodeSteps
+pub mod StrokeSteps
+pub mod TargetForms
+pub mod TargetSteps
+pub mod MemberSteps
+pub mod LabelSteps
+pub mod BodyForms
+pub mod BodySteps
