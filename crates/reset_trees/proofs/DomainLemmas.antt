@@ -6,7 +6,7 @@ use Rattle.std.proofs.lemmas.List.Elements.{All-push, filter_map-append}
 use Rattle.cons_bind.specs.Binding.{forms_of}
 use Rattle.cons_bind.specs.declared.bound.BoundForm.{BoundForm}
 use Rattle.cons_bind.specs.declared.bound.BoundLine.{BoundLine}
-use Rattle.reset_trees.specs.declared.domains.DomainOf.{DomainOf}
+use Rattle.reset_trees.specs.declared.answers.DomainOf.{DomainOf}
 use Rattle.reset_trees.specs.Domains.{reset_in, resets_in, AreInside, AreDomainsOf}
 use Rattle.net_view.specs.Cone.{Lists}
 use Rattle.net_view.proofs.SourceLemmas.{lists_same}

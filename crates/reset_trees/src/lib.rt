@@ -5,22 +5,27 @@
 //! The event model: stands on `net_view` for nets, on `cons_bind` for what data and pins read.
 #![tactic(auto)]
 
+mod answers;
 mod clocks;
 mod cone;
 mod domain;
-mod domains;
+mod edges;
 mod fault;
 mod graph;
+mod levels;
 mod naming;
 mod pins;
 mod reach;
+mod same;
+mod shortage;
 mod tables;
 mod tracing;
 mod trees;
 
+pub use answers::{DomainOf, Mark, Marked};
 pub use domain::reset_domains;
-pub use domains::DomainOf;
 pub use fault::TreeFault;
+pub use shortage::DeclareFault;
 pub use tracing::trace;
 pub use trees::{PinCone, Trees};
 
