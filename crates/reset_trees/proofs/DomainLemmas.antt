@@ -36,7 +36,7 @@ module _ (net : Net) (r : ℕ) (S : ℕ → ℕ → Type 0) (P : ℕ → Type 0)
 pub domains_none : (net : Net) → AreDomainsOf net [] []
 domains_none net = record { listed = refl; flops = λ k d lt. absurd (omega arith) }
 
-forms_more : (lines : List BoundLine) (k : ℕ) (line : BoundLine) → k < length lines → line ≡ get_or lines k line → forms_of (take (k + 1) lines) ≡ forms_of (take k lines) ++ line.form ∷ []
+pub forms_more : (lines : List BoundLine) (k : ℕ) (line : BoundLine) → k < length lines → line ≡ get_or lines k line → forms_of (take (k + 1) lines) ≡ forms_of (take k lines) ++ line.form ∷ []
 forms_more lines k line lt is = map_more (λ (l : BoundLine). l.form) lines k line lt ∙ ap (λ (l : BoundLine). forms_of (take k lines) ++ l.form ∷ []) (sym is)
 
 one_reset : (form : BoundForm) (r : ℕ) → reset_in form ≡ Some r → resets_in (form ∷ []) ≡ r ∷ []

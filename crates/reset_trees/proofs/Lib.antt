@@ -6,4 +6,5 @@ pub mod PinLemmas
 pub mod ReachLemmas
 pub mod DomainLemmas
 pub mod StepLemmas
+pub mod LevelLemmas
 mod TangledNetLemmas

@@ -12,22 +12,22 @@ use Rattle.reset_trees.specs.declared.answers.Marked.{Marked}
 use Rattle.reset_trees.specs.Reads.{HasData}
 use Rattle.reset_trees.specs.Same.{IsSame, IsCalm, IsDirect}
 
--- what the edge of flop f is
-abbrev pub IsEdgeMark : Net → List BoundForm → ℕ → Mark → Type 0
-IsEdgeMark net lines f Same = IsSame net lines f
-IsEdgeMark net lines f Direct = ⊥
-IsEdgeMark net lines f Asked = IsSame net lines f → ⊥
+-- an edge is the same exactly where that is so
+abbrev pub IsEdgeMark : Type 0 → Mark → Type 0
+IsEdgeMark IsSo Same = IsSo
+IsEdgeMark IsSo Direct = ⊥
+IsEdgeMark IsSo Asked = IsSo → ⊥
 
--- what the calm of flop f by source s is
-abbrev pub IsCalmMark : Net → List BoundForm → ℕ → ℕ → Mark → Type 0
-IsCalmMark net lines f s Same = ⊥
-IsCalmMark net lines f s Direct = IsDirect net lines f s
-IsCalmMark net lines f s Asked = IsDirect net lines f s → ⊥
+-- a calm is direct exactly where that is so
+abbrev pub IsCalmMark : Type 0 → Mark → Type 0
+IsCalmMark IsSo Same = ⊥
+IsCalmMark IsSo Direct = IsSo
+IsCalmMark IsSo Asked = IsSo → ⊥
 
 -- an edge, as it is
 pub record IsEdge (net : Net) (lines : List BoundForm) (edge : Marked) : Type 0 where
   pub by : edge.by ≡ None
-  pub mark : IsEdgeMark net lines edge.flop edge.mark
+  pub mark : IsEdgeMark (IsSame net lines edge.flop) edge.mark
 
 -- the edges of the flops with data, by number
 pub record AreEdges (net : Net) (lines : List BoundForm) (edges : List Marked) : Type 0 where
@@ -38,7 +38,7 @@ pub record AreEdges (net : Net) (lines : List BoundForm) (edges : List Marked) :
 pub record IsCalmBy (net : Net) (lines : List BoundForm) (calm : Marked) (s : ℕ) : Type 0 where
   pub by : calm.by ≡ Some s
   pub asked : IsCalm net lines calm.flop s
-  pub mark : IsCalmMark net lines calm.flop s calm.mark
+  pub mark : IsCalmMark (IsDirect net lines calm.flop s) calm.mark
 
 -- the first source is the lower one
 abbrev pub IsLower : Option ℕ → Option ℕ → Type 0

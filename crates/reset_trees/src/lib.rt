@@ -6,8 +6,10 @@
 #![tactic(auto)]
 
 mod answers;
+mod calms;
 mod clocks;
 mod cone;
+mod direct;
 mod domain;
 mod edges;
 mod fault;

@@ -1,0 +1,48 @@
+-- Serves specs/Roles.antt: the levels of resets, line by line.
+use Rattle.std.proofs.Common.{◌≡◌, ◌⊎◌, inl, inr, ℕ, zero, suc, ◌+◌, ◌<◌, Bool, List, [], ◌∷◌, ◌++◌, length, get_or, set, take, replicate, Option, Some, None, sym, subst, ap, refl, ◌∙◌, arith, get_or-set_same, get_or-set_other}
+use Rattle.std.specs.Prelude.{◌==◌, if◌then◌else◌, slice_index_or}
+use Rattle.cons_bind.specs.Binding.{forms_of}
+use Rattle.cons_bind.specs.declared.bound.BoundForm.{BoundForm}
+use Rattle.cons_bind.specs.declared.bound.BoundForm.TheVariants.{Clock, Reset, Tie, Steady, Track, Order, Isolate, Quiet, Waive}
+use Rattle.cons_bind.specs.declared.bound.BoundLine.{BoundLine}
+use Rattle.reset_trees.specs.Domains.{reset_in}
+use Rattle.reset_trees.specs.Marking.{level_at, AreLevels}
+use Rattle.reset_trees.specs.Roles.{level_in, or_level, level_of}
+use Rattle.reset_trees.proofs.DomainLemmas.{forms_more}
+
+or_none : (o : Option Bool) → or_level o None ≡ o
+or_none None = refl
+or_none (Some high) = refl
+
+or_assoc : (a b d : Option Bool) → or_level (or_level a b) d ≡ or_level a (or_level b d)
+or_assoc None b d = refl
+or_assoc (Some high) b d = refl
+
+pub level_of-append : (lines : List BoundForm) (form : BoundForm) (s : ℕ) → level_of (lines ++ form ∷ []) s ≡ or_level (level_of lines s) (level_in form s)
+level_of-append [] form s = or_none (level_in form s)
+level_of-append (x ∷ lines) form s = ap (λ (o : Option Bool). or_level (level_in x s) o) (level_of-append lines form s) ∙ sym (or_assoc (level_in x s) (level_of lines s) (level_in form s))
+
+-- one more line
+pub levels_more : (lines : List BoundLine) (k : ℕ) (line : BoundLine) (old new : List (Option Bool)) → k < length lines → line ≡ get_or lines k line → AreLevels (forms_of (take k lines)) old
+    → ((s : ℕ) → level_at new s ≡ or_level (level_at old s) (level_in line.form s)) → AreLevels (forms_of (take (k + 1) lines)) new
+levels_more lines k line old new lt is before step = λ s.
+    step s ∙ ap (λ (o : Option Bool). or_level o (level_in line.form s)) (before s)
+    ∙ sym (ap (λ (fs : List BoundForm). level_of fs s) (forms_more lines k line lt is) ∙ level_of-append (forms_of (take k lines)) line.form s)
+
+no_level : (n s : ℕ) → slice_index_or (replicate n None) s None ≡ (None : Option Bool)
+no_level zero s = refl
+no_level (suc n) zero = refl
+no_level (suc n) (suc s) = no_level n s
+
+-- no line was looked at
+pub levels_none : (levels : List (Option Bool)) (n : ℕ) → levels ≡ replicate n None → AreLevels [] levels
+levels_none levels n is = λ s. ap (λ (ls : List (Option Bool)). level_at ls s) is ∙ no_level n s
+
+one_of : (k n : ℕ) → (k ≡ n) ⊎ (k ≡ n → ⊥)
+one_of k n = grind arith
+
+same_test : (s : ℕ) → (s == s) ≡ true
+same_test s = grind arith
+
+other_test : (t s : ℕ) → (s ≡ t → ⊥) → (t == s) ≡ false
+other_test t s ne = grind arith
