@@ -37,12 +37,3 @@ no_level (suc n) (suc s) = no_level n s
 -- no line was looked at
 pub levels_none : (levels : List (Option Bool)) (n : ℕ) → levels ≡ replicate n None → AreLevels [] levels
 levels_none levels n is = λ s. ap (λ (ls : List (Option Bool)). level_at ls s) is ∙ no_level n s
-
-one_of : (k n : ℕ) → (k ≡ n) ⊎ (k ≡ n → ⊥)
-one_of k n = grind arith
-
-same_test : (s : ℕ) → (s == s) ≡ true
-same_test s = grind arith
-
-other_test : (t s : ℕ) → (s ≡ t → ⊥) → (t == s) ≡ false
-other_test t s ne = grind arith

@@ -7,4 +7,7 @@ pub mod ReachLemmas
 pub mod DomainLemmas
 pub mod StepLemmas
 pub mod LevelLemmas
+pub mod SameLemmas
+pub mod EdgeLemmas
+pub mod CalmLemmas
 mod TangledNetLemmas
