@@ -1,14 +1,15 @@
 -- Serves specs/Problems.antt: the calms, pin by pin and source by source.
-use Rattle.std.proofs.Common.{◌≡◌, ◌↔◌, ◌⊎◌, inl, inr, ℕ, ◌+◌, ◌<◌, ◌≤◌, Bool, true, List, [], ◌∷◌, ◌++◌, length, get_or, map, take, Option, Some, None, IsSome, All, AllPairs, Contains, sym, subst, ap, refl, ◌∙◌, arith}
-use Rattle.std.specs.Prelude.{slice_get, slice_index}
+use Rattle.std.proofs.Common.{◌≡◌, ◌↔◌, ◌⊎◌, inl, inr, ℕ, zero, suc, ◌+◌, ◌<◌, ◌≤◌, Bool, true, false, List, [], ◌∷◌, ◌++◌, length, get_or, map, take, Option, Some, None, IsSome, All, AllPairs, Contains, sym, subst, ap, refl, ◌∙◌, arith}
+use Rattle.std.specs.Prelude.{slice_get, slice_index, slice_index_or, IfSome}
 use Rattle.std.proofs.lemmas.List.{take_more, get_or-map, length-map, map_more}
 use Rattle.std.proofs.lemmas.List.Elements.{All-push, Contains-push, Contains-push_cases, Contains-append_left, Contains-get_or}
 use Rattle.std.proofs.lemmas.List.Quantifiers.{all_pairs_push}
 use Rattle.net_view.specs.declared.flop_net.FlopOf.{FlopOf}
-use Rattle.net_view.specs.declared.flop_net.SrcKind.TheVariants.{Flop}
+use Rattle.net_view.specs.declared.flop_net.SrcKind.TheVariants.{Port, Flop}
 use Rattle.net_view.specs.declared.gate.Gate.TheVariants.{Source}
-use Rattle.net_view.specs.FlopNet.{Kind, IsFlopAt}
-use Rattle.net_view.specs.View.{Numbered}
+use Rattle.std.proofs.lemmas.Option.{slice_get_within}
+use Rattle.net_view.specs.FlopNet.{Kind, Bit, IsBitAt, IsFlopAt, IsFlopNet}
+use Rattle.net_view.specs.View.{Numbered, IsGateAt, IsNet}
 use Rattle.net_view.specs.Cone.{Lists}
 use Rattle.net_view.proofs.Members.{contains_none, rising_lt, contains_at}
 use Rattle.cons_bind.specs.Names.{Net, IsSourceBit}
@@ -23,6 +24,7 @@ use Rattle.reset_trees.specs.Reads.{HasPin, PinReads}
 use Rattle.reset_trees.specs.Roles.{level_of}
 use Rattle.reset_trees.specs.Same.{CanCalm, CalmsTo, IsCalm, IsDirect}
 use Rattle.reset_trees.specs.Trees.{ArePinCones}
+use Rattle.reset_trees.proofs.SameLemmas.{kind_here}
 use Rattle.reset_trees.proofs.StepLemmas.{taken_more, taken_before, taken_last}
 
 -- a lower flop, or this one with a source that was looked at
@@ -115,3 +117,132 @@ taken_low sources k s t rising lt is h = let at = taken_at sources k t h in let 
     taken_at [] (suc k) t h = absurd (contains_none t h)
     taken_at (x ∷ xs) (suc k) t (zero, lt, e) = (0, omega arith, e)
     taken_at (x ∷ xs) (suc k) t (suc i, lt, e) = let rest = taken_at xs k t (i, omega (arith, lt), e) in (rest.0 + 1, omega (arith, rest.1), rest.2)
+
+-- the calms of lower flops, and no source looked at yet
+pub calms_start : (net : Net) (lines : List BoundForm) (n : ℕ) (calms : List Marked) → AreCalmsOf net lines (λ f s. f < n) calms → AreCalmsOf net lines (IsPast n []) calms
+calms_start net lines n calms before =
+    calms_same net lines (λ f s. f < n) (IsPast n []) calms (λ f s asked low. inl low) (λ f s asked p. elim p [ inl low ↦ low | inr old ↦ absurd (contains_none s old.1) ]) before
+
+up_or : (f n : ℕ) → f < n + 1 → (f < n) ⊎ (f ≡ n)
+up_or f n lt = grind arith
+
+-- all sources of the pin were looked at
+pub calms_end : (net : Net) (lines : List BoundForm) (n : ℕ) (sources : List ℕ) (calms : List Marked) → Lists (PinReads net n) sources → AreCalmsOf net lines (IsPast n sources) calms → AreCalmsOf net lines (λ f s. f < n + 1) calms
+calms_end net lines n sources calms lists before =
+    calms_same net lines (IsPast n sources) (λ f s. f < n + 1) calms
+    (λ f s asked p. elim p [ inl low ↦ omega (arith, low) | inr old ↦ omega (arith, old.0) ])
+    (λ f s asked low. elim (up_or f n low) [
+      | inl lower ↦ inl lower
+      | inr same ↦ inr (same, (lists.whole s).1 (subst (λ (z : ℕ). PinReads net z s) same asked.reads))
+    ])
+    before
+
+-- a flop that asks about no calm
+pub calms_deaf : (net : Net) (lines : List BoundForm) (n : ℕ) (calms : List Marked) → ((s : ℕ) → IsCalm net lines n s → ⊥) → AreCalmsOf net lines (λ f s. f < n) calms → AreCalmsOf net lines (λ f s. f < n + 1) calms
+calms_deaf net lines n calms none before =
+    calms_same net lines (λ f s. f < n) (λ f s. f < n + 1) calms (λ f s asked low. omega (arith, low))
+    (λ f s asked low. elim (up_or f n low) [ inl lower ↦ lower | inr same ↦ absurd (none s (subst (λ (z : ℕ). IsCalm net lines z s) same asked)) ])
+    before
+
+flop_same : (a b : FlopOf ℕ) → Some (Flop a) ≡ Some (Flop b) → a ≡ b
+flop_same a b e = cc
+
+kind_same : (a b : FlopOf ℕ) → Flop a ≡ Flop b → a ≡ b
+kind_same a b e = cc
+
+some_same : (a b : Kind) → Some a ≡ Some b → a ≡ b
+some_same a b e = cc
+
+pub no_calm : (net : Net) (lines : List BoundForm) (n s : ℕ) (f : FlopOf ℕ) (kinds : List Kind) → kinds ≡ net.kinds → get_or kinds n Port ≡ Flop f → f.calms ≡ false → IsCalm net lines n s → ⊥
+no_calm net lines n s f kinds e is deaf h =
+    let low = slice_get_within net.kinds n (Flop h.flop) h.is_flop in
+    let here : get_or kinds n Port ≡ Flop h.flop = subst (λ (ks : List Kind). get_or ks n Port ≡ Flop h.flop) (sym e) (kind_here net.kinds n (Flop h.flop) h.is_flop low) in
+    let same : f ≡ h.flop = kind_same f h.flop (sym is ∙ here) in
+    let bad : true ≡ false = sym h.asked ∙ ap (λ (x : FlopOf ℕ). x.calms) (sym same) ∙ deaf in
+    absurd cc
+
+-- the root of a pin is a bit
+pub root_inside : (net : Net) (count n : ℕ) (f : FlopOf ℕ) → IsFlopNet net.gates count net.names net.kinds net.bits → IsFlopAt net.kinds n f → HasPin net n → f.root < length net.bits
+root_inside net count n f lawful at has =
+    let same : has.0 ≡ f = flop_same has.0 f (sym has.1 ∙ at) in
+    root_of f.pin (subst (λ (x : FlopOf ℕ). IsSome x.pin) same has.2) (lawful.flops n f at).root
+  where
+    root_of : (o : Option ℕ) → IsSome o → IfSome o (λ p. (bit : Bit) × IsBitAt net.bits f.root bit × (bit.node ≡ p)) → f.root < length net.bits
+    root_of None h r = absurd cc
+    root_of (Some p) h r = slice_get_within net.bits f.root r.0 r.1
+
+-- what a pin reads is a source
+pub pinned_inside : (net : Net) (count n : ℕ) (sources : List ℕ) (k : ℕ) → IsNet net.gates count → Lists (PinReads net n) sources → k < length sources → slice_index_or sources k 0 < count
+pinned_inside net count n sources k lawful lists lt =
+    let h = (lists.whole (get_or sources k 0)).0 (Contains-get_or sources k 0 lt) in
+    lawful.lower h.reads.0 (Source (get_or sources k 0)) h.reads.2
+
+-- a bit is one source
+source_once : (net : Net) (b r s : ℕ) → IsSourceBit net b r → IsSourceBit net b s → r ≡ s
+source_once net b r s x y =
+    let same : x.bit ≡ y.bit = bit_same x.bit y.bit (sym x.there ∙ y.there) in
+    gate_same r s (sym (subst (λ (z : Bit). IsGateAt net.gates z.node (Source r)) same x.node) ∙ y.node)
+  where
+    bit_same : (a d : Bit) → Some a ≡ Some d → a ≡ d
+    bit_same a d e = cc
+
+    gate_same : (m n : ℕ) → (◌≡◌ {A = Option Numbered} (Some (Source m)) (Some (Source n))) → m ≡ n
+    gate_same m n e = cc
+
+root_is : (net : Net) (b s : ℕ) (root : Option ℕ) → IsRoot net b root → IsSourceBit net b s → root ≡ Some s
+root_is net b s None none is = absurd (none s is)
+root_is net b s (Some r) one is = ap (λ (z : ℕ). Some z) (source_once net b r s one is)
+
+mark_same : (m : Mark) {P Q : Type 0} → (P → Q) → (Q → P) → IsCalmMark P m → IsCalmMark Q m
+mark_same Same to from h = h
+mark_same Direct to from h = to h
+mark_same Asked to from h = λ q. h (from q)
+
+-- what a source is, for the pin of flop n that reads it
+pub record IsAsked (net : Net) (lines : List BoundForm) (levels : List (Option Bool)) (n s : ℕ) (f : FlopOf ℕ) (root : Option ℕ) (kind : Kind) : Type 0 where
+  pub are : AreLevels lines levels
+  pub is_flop : IsFlopAt net.kinds n f
+  pub asked : f.calms ≡ true
+  pub root : IsRoot net f.root root
+  pub reads : PinReads net n s
+  pub is_kind : slice_get net.kinds s ≡ Some kind
+
+pub calm_none : (net : Net) (lines : List BoundForm) (levels : List (Option Bool)) (n s : ℕ) (f : FlopOf ℕ) (root : Option ℕ) (kind : Kind) → IsAsked net lines levels n s f root kind
+    → (CanCalm kind (level_at levels s) → ⊥) → IsCalm net lines n s → ⊥
+calm_none net lines levels n s f root kind is none h =
+    let same : h.kind ≡ kind = some_same h.kind kind (sym h.is_kind ∙ is.is_kind) in
+    none (subst (λ (o : Option Bool). CanCalm kind o) (sym (is.are s)) (subst (λ (k : Kind). CanCalm k (level_of lines s)) same h.calms))
+
+pub calm_some : (net : Net) (lines : List BoundForm) (levels : List (Option Bool)) (n s : ℕ) (f : FlopOf ℕ) (root : Option ℕ) (kind : Kind) (calm : Marked) → IsAsked net lines levels n s f root kind
+    → CanCalm kind (level_at levels s) → IsMarkedCalm n s ((root ≡ Some s) × CalmsTo kind (level_at levels s) f.high) calm → IsCalmBy net lines calm s
+calm_some net lines levels n s f root kind calm is can marked = record {
+  by = marked.by;
+  asked = subst (λ (z : ℕ). IsCalm net lines z s) (sym marked.flop) (record {
+    flop = f;
+    is_flop = is.is_flop;
+    asked = is.asked;
+    reads = is.reads;
+    kind = kind;
+    is_kind = is.is_kind;
+    calms = subst (λ (o : Option Bool). CanCalm kind o) (is.are s) can;
+  });
+  mark = subst (λ (z : ℕ). IsCalmMark (IsDirect net lines z s) calm.mark) (sym marked.flop) (mark_same calm.mark to from marked.mark);
+}
+  where
+    to : (root ≡ Some s) × CalmsTo kind (level_at levels s) f.high → IsDirect net lines n s
+    to h = record {
+      flop = f;
+      is_flop = is.is_flop;
+      root = subst (λ (o : Option ℕ). IsRoot net f.root o) h.0 is.root;
+      kind = kind;
+      is_kind = is.is_kind;
+      active = subst (λ (o : Option Bool). CalmsTo kind o f.high) (is.are s) h.1;
+    }
+
+    from : IsDirect net lines n s → (root ≡ Some s) × CalmsTo kind (level_at levels s) f.high
+    from d =
+        let flop : d.flop ≡ f = flop_same d.flop f (sym d.is_flop ∙ is.is_flop) in
+        let same : d.kind ≡ kind = some_same d.kind kind (sym d.is_kind ∙ is.is_kind) in (
+          root_is net f.root s root is.root (subst (λ (x : FlopOf ℕ). IsSourceBit net x.root s) flop d.root),
+          subst (λ (o : Option Bool). CalmsTo kind o f.high) (sym (is.are s)) (subst (λ (k : Kind). CalmsTo k (level_of lines s) f.high) same (subst (λ (x : FlopOf ℕ). CalmsTo d.kind (level_of lines s) x.high) flop d.active)),
+        )

@@ -1,13 +1,15 @@
 -- Serves specs/Problems.antt: the edges, source by source.
-use Rattle.std.proofs.Common.{◌≡◌, ◌↔◌, inl, inr, ℕ, ◌+◌, ◌<◌, ◌≤◌, Bool, List, [], ◌∷◌, ◌++◌, length, map, Option, Some, None, IsSome, All, Contains, sym, subst, ap, refl, ◌∙◌, arith}
-use Rattle.std.specs.Prelude.{slice_get, IfSome}
+use Rattle.std.proofs.Common.{◌≡◌, ◌↔◌, inl, inr, ℕ, ◌+◌, ◌<◌, ◌≤◌, Bool, List, [], ◌∷◌, ◌++◌, length, get_or, map, Option, Some, None, IsSome, All, Contains, sym, subst, ap, refl, ◌∙◌, arith}
+use Rattle.std.specs.Prelude.{slice_get, IfSome, MatchOption}
 use Rattle.std.specs.Option.{option_map}
 use Rattle.std.proofs.lemmas.List.{map-append}
-use Rattle.std.proofs.lemmas.List.Elements.{All-push}
+use Rattle.std.proofs.lemmas.List.Elements.{All-push, Contains-get_or}
 use Rattle.std.proofs.lemmas.Option.{slice_get_within}
 use Rattle.net_view.specs.declared.flop_net.FlopOf.{FlopOf}
 use Rattle.net_view.specs.declared.flop_net.SrcKind.TheVariants.{Port, BoxOut, Flop}
 use Rattle.net_view.specs.FlopNet.{Kind, IsFlopAt, IsFlopNet}
+use Rattle.net_view.specs.declared.gate.Gate.TheVariants.{Source}
+use Rattle.net_view.specs.View.{Numbered, IsNet}
 use Rattle.net_view.specs.Cone.{Lists, ReadsSource}
 use Rattle.cons_bind.specs.Names.{Net}
 use Rattle.cons_bind.specs.declared.bound.BoundForm.{BoundForm}
@@ -51,7 +53,7 @@ pub record HasDataAt (net : Net) (s : ℕ) (f : FlopOf ℕ) (n : ℕ) : Type 0 w
   pub is_flop : IsFlopAt net.kinds s f
   pub next : f.next ≡ Some n
 
-pair_is : (f g : FlopOf ℕ) (o : Option ℕ) (n : ℕ) → option_map (λ (k : ℕ). (f, k)) o ≡ Some (g, n) → (f ≡ g) × (o ≡ Some n)
+pair_is : (f g : FlopOf ℕ) (o : Option ℕ) (n : ℕ) → option_map {U = FlopOf ℕ × ℕ} (λ (k : ℕ). (f, k)) o ≡ Some (g, n) → (f ≡ g) × (o ≡ Some n)
 pair_is f g None n e = absurd cc
 pair_is f g (Some m) n e =
     let same : (◌≡◌ {A = FlopOf ℕ × ℕ} (f, m) (g, n)) = cc in
@@ -73,7 +75,7 @@ some_is o p e = rw e refl
 pub has_data : (net : Net) (s : ℕ) (f : FlopOf ℕ) (n : ℕ) → HasDataAt net s f n → HasData net s
 has_data net s f n is = (f, is.is_flop, some_is f.next n is.next)
 
-pair_none : (f : FlopOf ℕ) (o : Option ℕ) → option_map (λ (k : ℕ). (f, k)) o ≡ None → IsSome o → ⊥
+pair_none : (f : FlopOf ℕ) (o : Option ℕ) → option_map {U = FlopOf ℕ × ℕ} (λ (k : ℕ). (f, k)) o ≡ None → IsSome o → ⊥
 pair_none f None e h = absurd cc
 pair_none f (Some m) e h = absurd cc
 
@@ -112,3 +114,14 @@ same_is net lines levels s f n read are is lists = (
   λ same t h kind there.
       subst (λ (o : Option Bool). IsSameSource f kind o) (sym (are t)) (same f is.is_flop t ((data_reads net s f n t is).1 ((lists.whole t).0 h)) kind there),
 )
+
+-- what the data reads is in the net
+pub reads_inside : (gates : List Numbered) (count n bound : ℕ) (read : List ℕ) → IsNet gates count → bound ≡ count → Lists (ReadsSource gates n) read → All (λ s. s < bound) read
+reads_inside gates count n bound read lawful is lists k d lt =
+    let r = (lists.whole (get_or read k d)).0 (Contains-get_or read k d lt) in
+    let low = lawful.lower r.0 (Source (get_or read k d)) r.2 in
+    omega (arith, low, is)
+
+pub match_none : (o : Option Marked) {P : Type 0} {Q : Marked → Type 0} → ((e : Marked) → o ≡ Some e → ⊥) → MatchOption o P Q → P
+match_none None h m = m
+match_none (Some e) h m = absurd (h e refl)

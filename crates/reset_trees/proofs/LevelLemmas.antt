@@ -1,14 +1,13 @@
 -- Serves specs/Roles.antt: the levels of resets, line by line.
-use Rattle.std.proofs.Common.{◌≡◌, ◌⊎◌, inl, inr, ℕ, zero, suc, ◌+◌, ◌<◌, Bool, List, [], ◌∷◌, ◌++◌, length, get_or, set, take, replicate, Option, Some, None, sym, subst, ap, refl, ◌∙◌, arith, get_or-set_same, get_or-set_other}
-use Rattle.std.specs.Prelude.{◌==◌, if◌then◌else◌, slice_index_or}
+use Rattle.std.proofs.Common.{◌≡◌, ℕ, zero, suc, ◌+◌, ◌<◌, Bool, List, [], ◌∷◌, ◌++◌, length, get_or, take, replicate, Option, Some, None, sym, ap, refl, ◌∙◌}
+use Rattle.std.specs.Prelude.{slice_index_or, IfSome}
 use Rattle.cons_bind.specs.Binding.{forms_of}
 use Rattle.cons_bind.specs.declared.bound.BoundForm.{BoundForm}
-use Rattle.cons_bind.specs.declared.bound.BoundForm.TheVariants.{Clock, Reset, Tie, Steady, Track, Order, Isolate, Quiet, Waive}
 use Rattle.cons_bind.specs.declared.bound.BoundLine.{BoundLine}
-use Rattle.reset_trees.specs.Domains.{reset_in}
+use Rattle.reset_trees.specs.Domains.{reset_in, AreInside}
 use Rattle.reset_trees.specs.Marking.{level_at, AreLevels}
 use Rattle.reset_trees.specs.Roles.{level_in, or_level, level_of}
-use Rattle.reset_trees.proofs.DomainLemmas.{forms_more}
+use Rattle.reset_trees.proofs.DomainLemmas.{forms_more, line_inside}
 
 or_none : (o : Option Bool) → or_level o None ≡ o
 or_none None = refl
@@ -37,3 +36,11 @@ no_level (suc n) (suc s) = no_level n s
 -- no line was looked at
 pub levels_none : (levels : List (Option Bool)) (n : ℕ) → levels ≡ replicate n None → AreLevels [] levels
 levels_none levels n is = λ s. ap (λ (ls : List (Option Bool)). level_at ls s) is ∙ no_level n s
+
+inside_of : (count : ℕ) (o : Option ℕ) → ((r : ℕ) → o ≡ Some r → r < count) → IfSome o (λ s. s < count)
+inside_of count None h = tt
+inside_of count (Some r) h = h r refl
+
+-- the reset of a line is inside
+pub level_inside : (count : ℕ) (lines : List BoundLine) (k : ℕ) (line : BoundLine) → AreInside count (forms_of lines) → k < length lines → line ≡ get_or lines k line → IfSome (reset_in line.form) (λ s. s < count)
+level_inside count lines k line inside lt is = inside_of count (reset_in line.form) (λ r e. line_inside count lines k line r inside lt is e)

@@ -10,4 +10,5 @@ pub mod LevelLemmas
 pub mod SameLemmas
 pub mod EdgeLemmas
 pub mod CalmLemmas
+pub mod ListedLemmas
 mod TangledNetLemmas
