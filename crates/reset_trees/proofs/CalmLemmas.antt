@@ -116,7 +116,7 @@ taken_low sources k s t rising lt is h = let at = taken_at sources k t h in let 
         none_taken (x ∷ xs) t h = contains_none t h
     taken_at [] (suc k) t h = absurd (contains_none t h)
     taken_at (x ∷ xs) (suc k) t (zero, lt, e) = (0, omega arith, e)
-    taken_at (x ∷ xs) (suc k) t (suc i, lt, e) = let rest = taken_at xs k t (i, omega (arith, lt), e) in (rest.0 + 1, omega (arith, rest.1), rest.2)
+    taken_at (x ∷ xs) (suc k) t (suc i, lt, e) = let rest = taken_at xs k t (i, omega (arith, lt), e) in (suc rest.0, omega (arith, rest.1), rest.2)
 
 -- the calms of lower flops, and no source looked at yet
 pub calms_start : (net : Net) (lines : List BoundForm) (n : ℕ) (calms : List Marked) → AreCalmsOf net lines (λ f s. f < n) calms → AreCalmsOf net lines (IsPast n []) calms
@@ -203,7 +203,7 @@ pub record IsAsked (net : Net) (lines : List BoundForm) (levels : List (Option B
   pub are : AreLevels lines levels
   pub is_flop : IsFlopAt net.kinds n f
   pub asked : f.calms ≡ true
-  pub root : IsRoot net f.root root
+  pub is_root : IsRoot net f.root root
   pub reads : PinReads net n s
   pub is_kind : slice_get net.kinds s ≡ Some kind
 
@@ -233,7 +233,7 @@ calm_some net lines levels n s f root kind calm is can marked = record {
     to h = record {
       flop = f;
       is_flop = is.is_flop;
-      root = subst (λ (o : Option ℕ). IsRoot net f.root o) h.0 is.root;
+      root = subst (λ (o : Option ℕ). IsRoot net f.root o) h.0 is.is_root;
       kind = kind;
       is_kind = is.is_kind;
       active = subst (λ (o : Option Bool). CalmsTo kind o f.high) (is.are s) h.1;
@@ -243,6 +243,6 @@ calm_some net lines levels n s f root kind calm is can marked = record {
     from d =
         let flop : d.flop ≡ f = flop_same d.flop f (sym d.is_flop ∙ is.is_flop) in
         let same : d.kind ≡ kind = some_same d.kind kind (sym d.is_kind ∙ is.is_kind) in (
-          root_is net f.root s root is.root (subst (λ (x : FlopOf ℕ). IsSourceBit net x.root s) flop d.root),
+          root_is net f.root s root is.is_root (subst (λ (x : FlopOf ℕ). IsSourceBit net x.root s) flop d.root),
           subst (λ (o : Option Bool). CalmsTo kind o f.high) (sym (is.are s)) (subst (λ (k : Kind). CalmsTo k (level_of lines s) f.high) same (subst (λ (x : FlopOf ℕ). CalmsTo d.kind (level_of lines s) x.high) flop d.active)),
         )

@@ -122,6 +122,6 @@ reads_inside gates count n bound read lawful is lists k d lt =
     let low = lawful.lower r.0 (Source (get_or read k d)) r.2 in
     omega (arith, low, is)
 
-pub match_none : (o : Option Marked) {P : Type 0} {Q : Marked → Type 0} → ((e : Marked) → o ≡ Some e → ⊥) → MatchOption o P Q → P
-match_none None h m = m
-match_none (Some e) h m = absurd (h e refl)
+pub match_none : (o : Option Marked) (P : Type 0) (Q : Marked → Type 0) → ((e : Marked) → o ≡ Some e → ⊥) → MatchOption o P Q → P
+match_none None P Q h m = m
+match_none (Some e) P Q h m = absurd (h e refl)

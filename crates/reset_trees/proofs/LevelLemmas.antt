@@ -1,6 +1,6 @@
 -- Serves specs/Roles.antt: the levels of resets, line by line.
 use Rattle.std.proofs.Common.{◌≡◌, ℕ, zero, suc, ◌+◌, ◌<◌, Bool, List, [], ◌∷◌, ◌++◌, length, get_or, take, replicate, Option, Some, None, sym, ap, refl, ◌∙◌}
-use Rattle.std.specs.Prelude.{slice_index_or, IfSome}
+use Rattle.std.specs.Prelude.{IfSome}
 use Rattle.cons_bind.specs.Binding.{forms_of}
 use Rattle.cons_bind.specs.declared.bound.BoundForm.{BoundForm}
 use Rattle.cons_bind.specs.declared.bound.BoundLine.{BoundLine}
@@ -28,7 +28,7 @@ levels_more lines k line old new lt is before step = λ s.
     step s ∙ ap (λ (o : Option Bool). or_level o (level_in line.form s)) (before s)
     ∙ sym (ap (λ (fs : List BoundForm). level_of fs s) (forms_more lines k line lt is) ∙ level_of-append (forms_of (take k lines)) line.form s)
 
-no_level : (n s : ℕ) → slice_index_or (replicate n None) s None ≡ (None : Option Bool)
+no_level : (n s : ℕ) → level_at (replicate n None) s ≡ None
 no_level zero s = refl
 no_level (suc n) zero = refl
 no_level (suc n) (suc s) = no_level n s

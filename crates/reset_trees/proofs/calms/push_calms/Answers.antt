@@ -56,7 +56,7 @@ sources-preserved g c = λ lines are before.
     let reads : PinReads net n s = subst (λ (z : ℕ). PinReads net n z) (sym is) ((c.requires.pin.1.whole (slice_index_or sources k 0)).0 (Contains-get_or sources k 0 lt)) in
     let root = c.source_at-root.result in
     let levels = c.args.levels.now in
-    let asked : IsAsked net lines levels n s f root kind = record { are = are; is_flop = c.requires.flop; asked = c.requires.asked; root = c.source_at-root.ensures; reads = reads; is_kind = at } in
+    let asked : IsAsked net lines levels n s f root kind = record { are = are; is_flop = c.requires.flop; asked = c.requires.asked; is_root = c.source_at-root.ensures; reads = reads; is_kind = at } in
     let old = c.sources.invariant lines are before in
     let Found : Option Marked → Type 0 = λ o. MatchOption o (CanCalm kind (level_at levels s) → ⊥) (λ (calm : Marked). CanCalm kind (level_at levels s) × IsMarkedCalm n s ((root ≡ Some s) × CalmsTo kind (level_at levels s) f.high) calm) in
     let Done : List Marked → Type 0 = λ cs. AreCalmsOf net lines (IsPast n (take (k + 1) sources)) cs in
@@ -68,7 +68,7 @@ sources-preserved g c = λ lines are before.
           (calms_more net lines n sources k s c.sources.calms.items calm lt is (λ t h. taken_low sources k s t (rising_lt sources c.requires.pin.1.ascending) lt is h) found.1.flop (calm_some net lines levels n s f root kind calm asked found.0 found.1) old)
       | in_default w ↦
           subst Done (sym (ap (λ v. v.items) w.calms-is))
-          (calms_skip net lines n sources k s c.sources.calms.items lt is (calm_none net lines levels n s f root kind asked (match_none c.calm_of.result w.in_default.not-Some c.calm_of.ensures)) old)
+          (calms_skip net lines n sources k s c.sources.calms.items lt is (calm_none net lines levels n s f root kind asked (match_none c.calm_of.result (CanCalm kind (level_at levels s) → ⊥) (λ (calm : Marked). CanCalm kind (level_at levels s) × IsMarkedCalm n s ((root ≡ Some s) × CalmsTo kind (level_at levels s) f.high) calm) w.in_default.not-Some c.calm_of.ensures)) old)
     ]
 
 pub returns : goal.returns

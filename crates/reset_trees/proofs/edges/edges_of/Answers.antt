@@ -21,7 +21,7 @@ sources-preserved g c = λ lines are.
           let found = subst Found w.in-Some.is (c.in_ok-edge.ensures lines are) in
           subst Done (sym (w.edges-is ∙ w.in_ok-push.ensures.ok)) (edges_more net lines n edge c.sources.edges found.0 found.1 found.2 (c.sources.invariant lines are))
       | in_default w ↦
-          subst Done (sym w.edges-is) (edges_skip net lines n c.sources.edges (match_none c.in_ok-edge.field-0 w.in_default.not-Some (c.in_ok-edge.ensures lines are)) (c.sources.invariant lines are))
+          subst Done (sym w.edges-is) (edges_skip net lines n c.sources.edges (match_none c.in_ok-edge.field-0 (HasData net n → ⊥) (λ (edge : Marked). (edge.flop ≡ n) × HasData net n × IsEdge net lines edge) w.in_default.not-Some (c.in_ok-edge.ensures lines are)) (c.sources.invariant lines are))
     ]
 
 pub returns : goal.returns
