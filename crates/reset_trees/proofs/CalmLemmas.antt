@@ -1,8 +1,7 @@
 -- Serves specs/Problems.antt: the calms, pin by pin and source by source.
-use Rattle.std.proofs.Common.{◌≡◌, ◌↔◌, ◌⊎◌, inl, inr, ℕ, zero, suc, ◌+◌, ◌<◌, ◌≤◌, Bool, true, false, List, [], ◌∷◌, ◌++◌, length, get_or, map, take, Option, Some, None, IsSome, All, AllPairs, Contains, sym, subst, ap, refl, ◌∙◌, arith}
+use Rattle.std.proofs.Common.{◌≡◌, ◌⊎◌, inl, inr, ℕ, zero, suc, ◌+◌, ◌<◌, Bool, true, false, List, [], ◌∷◌, ◌++◌, length, get_or, map, take, Option, Some, None, IsSome, Contains, sym, subst, ap, refl, ◌∙◌, arith}
 use Rattle.std.specs.Prelude.{slice_get, slice_index, slice_index_or, IfSome}
-use Rattle.std.proofs.lemmas.List.{take_more, get_or-map, length-map, map_more}
-use Rattle.std.proofs.lemmas.List.Elements.{All-push, Contains-push, Contains-push_cases, Contains-append_left, Contains-get_or}
+use Rattle.std.proofs.lemmas.List.Elements.{All-push, Contains-push, Contains-append_left, Contains-get_or}
 use Rattle.std.proofs.lemmas.List.Quantifiers.{all_pairs_push}
 use Rattle.net_view.specs.declared.flop_net.FlopOf.{FlopOf}
 use Rattle.net_view.specs.declared.flop_net.SrcKind.TheVariants.{Port, Flop}
@@ -11,7 +10,7 @@ use Rattle.std.proofs.lemmas.Option.{slice_get_within}
 use Rattle.net_view.specs.FlopNet.{Kind, Bit, IsBitAt, IsFlopAt, IsFlopNet}
 use Rattle.net_view.specs.View.{Numbered, IsGateAt, IsNet}
 use Rattle.net_view.specs.Cone.{Lists}
-use Rattle.net_view.proofs.Members.{contains_none, rising_lt, contains_at}
+use Rattle.net_view.proofs.Members.{contains_none}
 use Rattle.cons_bind.specs.Names.{Net, IsSourceBit}
 use Rattle.cons_bind.specs.declared.bound.BoundForm.{BoundForm}
 use Rattle.reset_trees.specs.declared.answers.Marked.{Marked}
@@ -19,11 +18,10 @@ use Rattle.reset_trees.specs.declared.answers.Mark.{Mark}
 use Rattle.reset_trees.specs.declared.answers.Mark.TheVariants.{Same, Direct, Asked}
 use Rattle.reset_trees.specs.declared.trees.PinCone.{PinCone}
 use Rattle.reset_trees.specs.Marking.{level_at, AreLevels, IsMarkedCalm, IsRoot, AreCalmsOf}
-use Rattle.reset_trees.specs.Problems.{IsCalmMark, IsCalmBy, IsLower, IsBefore, AreCalms}
+use Rattle.reset_trees.specs.Problems.{IsCalmMark, IsCalmBy, IsLower, IsBefore}
 use Rattle.reset_trees.specs.Reads.{HasPin, PinReads}
 use Rattle.reset_trees.specs.Roles.{level_of}
 use Rattle.reset_trees.specs.Same.{CanCalm, CalmsTo, IsCalm, IsDirect}
-use Rattle.reset_trees.specs.Trees.{ArePinCones}
 use Rattle.reset_trees.proofs.SameLemmas.{kind_here}
 use Rattle.reset_trees.proofs.StepLemmas.{taken_more, taken_before, taken_last}
 

@@ -1,5 +1,5 @@
 -- The pins that were looked at have their calms.
-use Rattle.std.proofs.Common.{ℕ, List, Contains, map, take}
+use Rattle.std.proofs.Common.{List, take}
 use Rattle.cons_bind.specs.Names.{net_of}
 use Rattle.cons_bind.specs.declared.bound.BoundForm.{BoundForm}
 use Rattle.reset_trees.specs.Marking.{AreLevels, AreCalmsOf}

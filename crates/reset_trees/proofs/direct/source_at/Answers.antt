@@ -1,7 +1,6 @@
 -- A bit is the source of its node where it has the source's name.
-use Rattle.std.proofs.Common.{◌<◌, ◌∙◌, subst, sym}
+use Rattle.std.proofs.Common.{◌∙◌, sym}
 use Rattle.std.proofs.lemmas.Slice.Eq.{bytes_eq-Decides}
-use Rattle.cons_bind.specs.Names.{net_of, IsSourceBit}
 use Rattle.cons_bind.proofs.NamesLemmas.{node_within, source_bit}
 use Rattle.reset_trees.proofs.direct.source_at.Goals as goal
 

@@ -1,5 +1,5 @@
 -- An edge is the same where its data reads nothing but what it may.
-use Rattle.std.proofs.Common.{◌≡◌, ℕ, ◌<◌, Bool, true, false, List, length, get_or, All, Contains, Some, refl, sym, subst, ap, ◌∙◌}
+use Rattle.std.proofs.Common.{◌≡◌, ℕ, ◌<◌, true, false, List, length, get_or, All, Contains, Some, refl, sym, subst, ap, ◌∙◌}
 use Rattle.std.specs.Prelude.{slice_get, IfOk}
 use Rattle.std.proofs.lemmas.Option.{slice_get-get_or}
 use Rattle.net_view.specs.declared.flop_net.SrcKind.TheVariants.{Port}
@@ -47,8 +47,8 @@ returns g c = λ lines are.
       | else-is_same w ↦
           subst (λ (m : Mark). IsEdgeMark (IsSame net lines n) m) (sym w.mark-is)
           (λ so.
-              let yes = c.is_same.ensures.1 (subst (λ (xs : List ℕ). Reads c.args.kinds.now xs) (sym c.as_slice.ensures) (subst (λ (ks : List Kind). Reads ks c.in-Ok.read) (sym c.requires.kinds) (same.1 so))) in
-              let e : true ≡ false = sym yes ∙ w.if-is_same.false in
-              absurd cc)
+          let yes = c.is_same.ensures.1 (subst (λ (xs : List ℕ). Reads c.args.kinds.now xs) (sym c.as_slice.ensures) (subst (λ (ks : List Kind). Reads ks c.in-Ok.read) (sym c.requires.kinds) (same.1 so))) in
+          let e : true ≡ false = sym yes ∙ w.if-is_same.false in
+          absurd cc)
     ] in
     (refl, has_data net n flop c.in-Some.next is, record { by = refl; mark = mark })

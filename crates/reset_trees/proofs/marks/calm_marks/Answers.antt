@@ -1,12 +1,10 @@
 -- The tables are those of the net and of the lines.
-use Rattle.std.proofs.Common.{◌≡◌, ℕ, List, Bool, Option, length, sym, subst, ap, ◌∙◌}
+use Rattle.std.proofs.Common.{ℕ, List, Bool, Option, sym, subst}
 use Rattle.std.proofs.lemmas.Result.{IfOk-weaker}
 use Rattle.cons_bind.specs.Binding.{forms_of}
-use Rattle.cons_bind.specs.Names.{net_of}
 use Rattle.cons_bind.specs.declared.bound.BoundLine.{BoundLine}
 use Rattle.reset_trees.specs.Domains.{AreInside}
 use Rattle.reset_trees.specs.Marking.{AreLevels}
-use Rattle.reset_trees.specs.Problems.{AreCalms}
 use Rattle.reset_trees.proofs.marks.calm_marks.Goals as goal
 
 pub levels_of-requires : goal.levels_of-requires
