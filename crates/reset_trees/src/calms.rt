@@ -19,7 +19,7 @@ use rdc_outside::Seq;
 use std::alloc::{AllocError, Global};
 
 /// The calm of flop n by a source, if the source can calm.
-pub(crate) fn calm_of(
+fn calm_of(
     n: u32,
     flop: &FlopOf<u32>,
     root: Option<u32>,

@@ -38,8 +38,6 @@ pub use tracing::trace;
 pub use trees::{PinCone, Trees};
 
 #[cfg(test)]
-mod marks_tests;
-#[cfg(test)]
 mod small_net;
 #[cfg(test)]
 mod tangled_net;

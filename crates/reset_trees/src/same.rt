@@ -14,7 +14,7 @@ fn has_one_pin(f: &FlopOf<u32>, g: &FlopOf<u32>) -> bool
 }
 
 /// Whether the data of a flop may read a source of the kind and level.
-pub(crate) fn is_same_source(flop: &FlopOf<u32>, kind: &SrcKind<u32>, level: Option<bool>) -> bool
+fn is_same_source(flop: &FlopOf<u32>, kind: &SrcKind<u32>, level: Option<bool>) -> bool
     ensures { IsTrue result ↔ IsSameSource flop.now kind.now level }
 {
     match kind {
