@@ -9,8 +9,6 @@ pub mod StepLemmas
 pub mod LevelLemmas
 pub mod SameLemmas
 pub mod EdgeLemmas
-pub mod RoleLemmas
-pub mod LackLemmas
 pub mod CalmLemmas
 pub mod ListedLemmas
 mod TangledNetLemmas

@@ -9,7 +9,6 @@ pub mod Same
 pub mod Sets
 pub mod Problems
 pub mod Tables
-pub mod Missing
 pub mod Marking
 pub mod Reach
 pub mod Graph
