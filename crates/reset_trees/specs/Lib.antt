@@ -4,9 +4,7 @@ pub mod Trees
 pub mod Domain
 pub mod Domains
 pub mod Roles
-pub mod Undeclared
 pub mod Same
-pub mod Sets
 pub mod Problems
 pub mod Tables
 pub mod Marking

@@ -22,7 +22,6 @@ mod naming;
 mod pins;
 mod reach;
 mod same;
-mod shortage;
 mod tables;
 mod tracing;
 mod trees;
@@ -31,7 +30,6 @@ pub use answers::{DomainOf, Mark, Marked};
 pub use domain::reset_domains;
 pub use fault::TreeFault;
 pub use marks::{calm_marks, edge_marks};
-pub use shortage::DeclareFault;
 pub use tracing::trace;
 pub use trees::{PinCone, Trees};
 
