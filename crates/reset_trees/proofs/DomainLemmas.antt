@@ -6,7 +6,7 @@ use Rattle.std.proofs.lemmas.List.Elements.{All-push, filter_map-append}
 use Rattle.cons_bind.specs.Binding.{forms_of}
 use Rattle.cons_bind.specs.declared.bound.BoundForm.{BoundForm}
 use Rattle.cons_bind.specs.declared.bound.BoundLine.{BoundLine}
-use Rattle.reset_trees.specs.declared.domains.DomainOf.{DomainOf}
+use Rattle.reset_trees.specs.declared.answers.DomainOf.{DomainOf}
 use Rattle.reset_trees.specs.Domains.{reset_in, resets_in, AreInside, AreDomainsOf}
 use Rattle.net_view.specs.Cone.{Lists}
 use Rattle.net_view.proofs.SourceLemmas.{lists_same}
@@ -36,7 +36,7 @@ module _ (net : Net) (r : ℕ) (S : ℕ → ℕ → Type 0) (P : ℕ → Type 0)
 pub domains_none : (net : Net) → AreDomainsOf net [] []
 domains_none net = record { listed = refl; flops = λ k d lt. absurd (omega arith) }
 
-forms_more : (lines : List BoundLine) (k : ℕ) (line : BoundLine) → k < length lines → line ≡ get_or lines k line → forms_of (take (k + 1) lines) ≡ forms_of (take k lines) ++ line.form ∷ []
+pub forms_more : (lines : List BoundLine) (k : ℕ) (line : BoundLine) → k < length lines → line ≡ get_or lines k line → forms_of (take (k + 1) lines) ≡ forms_of (take k lines) ++ line.form ∷ []
 forms_more lines k line lt is = map_more (λ (l : BoundLine). l.form) lines k line lt ∙ ap (λ (l : BoundLine). forms_of (take k lines) ++ l.form ∷ []) (sym is)
 
 one_reset : (form : BoundForm) (r : ℕ) → reset_in form ≡ Some r → resets_in (form ∷ []) ≡ r ∷ []

@@ -8,7 +8,7 @@ use Rattle.net_view.specs.Cone.{Lists}
 use Rattle.cons_bind.specs.Names.{Net}
 use Rattle.cons_bind.specs.declared.bound.BoundForm.{BoundForm}
 use Rattle.cons_bind.specs.declared.bound.BoundForm.TheVariants.{Clock, Reset, Tie, Steady, Track, Order, Isolate, Quiet, Waive}
-use Rattle.reset_trees.specs.declared.domains.DomainOf.{DomainOf}
+use Rattle.reset_trees.specs.declared.answers.DomainOf.{DomainOf}
 use Rattle.reset_trees.specs.Domain.{InDomain}
 
 -- the source that a line declares a reset

@@ -3,7 +3,11 @@ pub mod Reads
 pub mod Trees
 pub mod Domain
 pub mod Domains
+pub mod Roles
+pub mod Same
+pub mod Problems
 pub mod Tables
+pub mod Marking
 pub mod Reach
 pub mod Graph
 pub mod PinSteps

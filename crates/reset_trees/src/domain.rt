@@ -12,7 +12,7 @@ ghost use Rattle.reset_trees.specs.Reach.{IsStep};
 ghost use Rattle.reset_trees.specs.Reads.{PinReads};
 ghost use Rattle.reset_trees.specs.PinSteps.{IsPinStep};
 
-use crate::domains::DomainOf;
+use crate::answers::DomainOf;
 use crate::graph::push_each;
 use crate::reach::reached;
 use crate::trees::{PinCone, Trees};

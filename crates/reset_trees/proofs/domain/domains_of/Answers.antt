@@ -2,7 +2,7 @@ use Rattle.std.proofs.Common.{◌+◌, ℕ, List, [], take, sym, subst, ap, ◌�
 use Rattle.std.proofs.lemmas.List.{take_all}
 use Rattle.cons_bind.specs.Binding.{forms_of}
 use Rattle.cons_bind.specs.declared.bound.BoundLine.{BoundLine}
-use Rattle.reset_trees.specs.declared.domains.DomainOf.{DomainOf}
+use Rattle.reset_trees.specs.declared.answers.DomainOf.{DomainOf}
 use Rattle.reset_trees.specs.Domains.{AreDomainsOf}
 use Rattle.net_view.specs.Cone.{Lists}
 use Rattle.reset_trees.specs.Domain.{InDomain}
