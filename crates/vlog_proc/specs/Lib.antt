@@ -5,3 +5,4 @@ pub mod Paths
 pub mod Assigns
 pub mod Lists
 pub mod Processes
+pub mod Sides

@@ -53,7 +53,7 @@ pub(crate) fn has_edges(control: &Control) -> bool
 
 /// The bits of an event, behind those that are there.
 #[tactic(auto, using(crate::proofs::CertainForms::targets_Index), unfolding(crate::specs::Lists::covered_by))]
-fn put_covered(
+pub(crate) fn put_covered(
     alloc: Global,
     design: &Design,
     event: &Event,

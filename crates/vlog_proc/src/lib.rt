@@ -17,8 +17,11 @@ mod paths;
 mod process;
 mod reading;
 mod sets;
+mod sides;
 mod targets;
 mod variables;
 
 pub use fault::ProcFault;
-pub use process::{Assigned, run_process};
+pub use names::owner;
+pub use process::{Assigned, run, run_process};
+pub use sides::{bits_of_event, certain_on_every_path, run_part};

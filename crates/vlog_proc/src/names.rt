@@ -49,7 +49,7 @@ fn owner_in<'a>(design: &Design, bit: u32, signals: &'a [Signal]) -> &'a [u8]
 }
 
 /// The name of the signal that a bit belongs to.
-pub(crate) fn owner(design: &Design, bit: u32) -> &[u8]
+pub fn owner(design: &Design, bit: u32) -> &[u8]
     ensures { result.now ≡ owner design.now.signals bit }
 {
     owner_in(design, bit, design.parts().signals.as_slice())

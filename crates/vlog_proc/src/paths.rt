@@ -157,7 +157,7 @@ fn or_done(met: Option<BTreeSet<u32>>, done: &BTreeSet<u32>) -> Result<BTreeSet<
 /// A statement without loops.
 #[cycle(walking)]
 #[tactic(auto, using(crate::proofs::WalkForms::forms), unfolding(crate::specs::Faults::and_then))]
-fn walk(
+pub(crate) fn walk(
     alloc: Global,
     design: &Design,
     bits: &BTreeSet<u32>,

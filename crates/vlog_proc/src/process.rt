@@ -46,7 +46,7 @@ fn no_inputs(alloc: Global) -> Result<Inputs, AllocError>
 }
 
 /// The bits that a process assigns.
-fn driven(
+pub(crate) fn driven(
     alloc: Global,
     design: &Design,
     process: &Process,
@@ -111,9 +111,12 @@ fn bits_checked(
     Ok(Seq::from_vec(listed(alloc, &set)?))
 }
 
-/// What a process assigns, or what is wrong with it.
+/// What a process of the design assigns, or what is wrong with it: `run_process` of it.
+///
+/// # Errors
+/// Those of `run_process`.
 #[tactic(auto, unfolding(crate::specs::Processes::run, crate::specs::Faults::and_then))]
-fn run(alloc: Global, design: &Design, process: &Process) -> Result<Assigned, ProcFault>
+pub fn run(alloc: Global, design: &Design, process: &Process) -> Result<Assigned, ProcFault>
     ensures { Answers (λ a. a) result (run design.now process.now) }
 {
     rights_checked(alloc, design, process)?;

@@ -1,0 +1,7 @@
+mod Chains
+mod Ends
+mod Steps
+mod NoneForms
+mod FixedForms
+mod RefusedForms
+mod ConstantForms

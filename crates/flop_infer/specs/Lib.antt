@@ -1,0 +1,4 @@
+pub mod Faults
+pub mod Constants
+pub mod Resets
+pub mod Flops
