@@ -68,7 +68,7 @@ unfoldable pub pinned_flops : Parts → Process → Assigned → Event → Event
 pinned_flops d p a clock reset high r part = do
   bit ← event_bit d p.place clock
   pin ← event_bit d p.place reset
-  pinned d p.place (frame bit clock part) (record { bit = pin; high = high }) (worth d a.bits r (nothing_known d)) a.bits
+  pinned d p.place (frame bit clock part) (record { bit = pin; high = high }) (worth d [] a.bits r (nothing_known d)) a.bits
 
 -- with a clock and a reset
 unfoldable pub reset_flops : Parts → ℕ → Process → Assigned → Event → Event → Bool → Stmt → Stmt → FlopList → Or_fault FlopList

@@ -1,5 +1,5 @@
 //! What a reset does to each bit.
-ghost use Rattle.std.specs.Prelude.{◌≡◌, IfOk};
+ghost use Rattle.std.specs.Prelude.{◌≡◌, [], IfOk};
 ghost use Rattle.elab_bits.specs.Touches.{is_among};
 ghost use Rattle.design_form.specs.State.{value_at};
 ghost use Rattle.proc_values.specs.Bodies.{worth};
@@ -26,10 +26,10 @@ pub(crate) fn reset_values(
     bits: &[u32],
     body: &Stmt,
 ) -> Result<Vec<Tern>, AllocError>
-    ensures { IfOk result (λ vs. vs.items ≡ worth design.now bits.now body.now (nothing_known design.now)) }
+    ensures { IfOk result (λ vs. vs.items ≡ worth design.now [] bits.now body.now (nothing_known design.now)) }
 {
     let state = vec![in alloc; Tern::Unsettled; design.bits() as usize]?;
-    match run_body(alloc, design, bits, body, &state) {
+    match run_body(alloc, design, &[], bits, body, &state) {
         Ok(values) => Ok(values),
         Err(_) => Err(AllocError),
     }
