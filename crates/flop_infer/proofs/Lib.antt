@@ -1,6 +1,7 @@
 mod Chains
 mod Ends
 mod Steps
+mod Runs
 mod NoneForms
 mod FixedForms
 mod RefusedForms

@@ -40,11 +40,7 @@ fn put_flops(list: &mut Seq<Flop>, flops: &[Flop]) -> Result<(), AllocError>
 }
 
 /// Flops and their part, behind those of a list.
-pub(crate) fn put_part(
-    list: &mut FlopList,
-    flops: &[Flop],
-    part: Part,
-) -> Result<(), AllocError>
+pub(crate) fn put_part(list: &mut FlopList, flops: &[Flop], part: Part) -> Result<(), AllocError>
     ensures { OnOk result (list.new ≡ with_part list.old flops.now part) }
 {
     put_flops(&mut list.flops, flops)?;

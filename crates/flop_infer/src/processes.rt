@@ -137,7 +137,7 @@ fn form_flops(
     form: ProcessShape<'_>,
     list: &mut FlopList,
 ) -> Result<(), FlopFault>
-    ensures { Answers (λ u. list.new) result (form_flops design.now number process.now list.old assigned (a_form form)) }
+    ensures { Answers (λ u. list.new) result (form_flops design.now number process.now list.old assigned (a_form form.entry)) }
 {
     match form {
         ProcessShape::Combinational => Ok(()),

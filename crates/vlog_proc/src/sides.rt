@@ -92,11 +92,7 @@ pub fn certain_on_every_path(
 ///
 /// # Errors
 /// Want of memory.
-pub fn bits_of_event(
-    alloc: Global,
-    design: &Design,
-    event: &Event,
-) -> Result<Seq<u32>, AllocError>
+pub fn bits_of_event(alloc: Global, design: &Design, event: &Event) -> Result<Seq<u32>, AllocError>
     ensures { IfOk result (λ bits. bits ≡ covered design.now.signals event.now) }
 {
     let mut bits = Vec::new(alloc);
