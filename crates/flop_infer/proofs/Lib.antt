@@ -2,6 +2,7 @@ mod Chains
 mod Ends
 mod Steps
 mod Runs
+mod Made
 mod NoneForms
 mod FixedForms
 mod RefusedForms

@@ -1,8 +1,8 @@
 //! The flops of processes.
-ghost use Rattle.std.specs.Prelude.{◌≡◌};
+ghost use Rattle.std.specs.Prelude.{◌≡◌, OnOk};
 ghost use Rattle.flop_shapes.specs.Answers.{a_form};
 ghost use Rattle.flop_infer.specs.Faults.{Answers};
-ghost use Rattle.flop_infer.specs.Flops.{a_part, clocked_flops, flops, form_flops, frame, pinned_flops, process_flops, reset_flops};
+ghost use Rattle.flop_infer.specs.Flops.{a_part, clocked_flops, flops, form_flops, frame, pinned_flops, plain, process_flops, reset_flops, with_part};
 
 use crate::fault::FlopFault;
 use crate::flop::{Flop, FlopList, Part};
@@ -13,7 +13,7 @@ use crate::resets::{pinned, reset_values, resets_all};
 use design_form::{Design, Process};
 use flop_shapes::ProcessShape;
 use rdc_outside::Seq;
-use std::alloc::Global;
+use std::alloc::{AllocError, Global};
 use vlog_proc::Assigned;
 use vlog_tree::{Event, Stmt};
 
@@ -39,8 +39,15 @@ fn whole(number: usize, assigned: Assigned) -> Part
     }
 }
 
+/// A part and its flops, which have no reset, behind those of a list.
+fn put_plain(alloc: Global, frame: Frame, part: Part, list: &mut FlopList) -> Result<(), AllocError>
+    ensures { OnOk result (list.new ≡ with_part list.old (plain frame part.bits) part) }
+{
+    let flops = plain(alloc, frame, part.bits.as_slice())?;
+    put_part(list, &flops, part)
+}
+
 /// The flops of a process with a clock.
-#[tactic(auto, unfolding(crate::specs::Flops::clocked_flops, crate::specs::Faults::and_then))]
 fn clocked_flops(
     alloc: Global,
     design: &Design,
@@ -52,12 +59,15 @@ fn clocked_flops(
 ) -> Result<(), FlopFault>
     ensures { Answers (λ u. list.new) result (clocked_flops design.now number process.now assigned clock.now list.old) }
 {
-    let bit = event_bit(alloc, design, process.place, clock)?;
+    let bit = match event_bit(alloc, design, process.place, clock) {
+        Ok(bit) => bit,
+        Err(fault) => return Err(fault),
+    };
     let frame = frame(bit, clock, list.parts.len());
-    let flops = plain(alloc, frame, assigned.bits.as_slice())?;
-    let part = whole(number, assigned);
-    put_part(list, &flops, part)?;
-    Ok(())
+    match put_plain(alloc, frame, whole(number, assigned), list) {
+        Ok(()) => Ok(()),
+        Err(_) => Err(FlopFault::Memory),
+    }
 }
 
 /// The flops of a process with a reset, of which that part is without loops.
@@ -85,7 +95,6 @@ fn pinned_flops(
 }
 
 /// The flops of a process with a clock and a reset.
-#[tactic(auto, unfolding(crate::specs::Flops::reset_flops, crate::specs::Faults::and_then))]
 fn reset_flops(
     alloc: Global,
     design: &Design,
@@ -101,29 +110,35 @@ fn reset_flops(
 ) -> Result<(), FlopFault>
     ensures { Answers (λ u. list.new) result (reset_flops design.now number process.now assigned clock.now reset.now high reset_part.now clocked_part.now list.old) }
 {
-    let at_reset = side(alloc, design, process, reset_part)?;
-    let at_clock = side(alloc, design, process, clocked_part)?;
+    let at_reset = match side(alloc, design, process, reset_part) {
+        Ok(at_reset) => at_reset,
+        Err(fault) => return Err(fault),
+    };
+    let at_clock = match side(alloc, design, process, clocked_part) {
+        Ok(at_clock) => at_clock,
+        Err(fault) => return Err(fault),
+    };
     let (body, bits) = (&at_reset.body, at_clock.bits.as_slice());
-    resets_all(alloc, design, process.place, body, bits)?;
-    let number_of_part = list.parts.len();
-    let flops = pinned_flops(
-        alloc,
-        design,
-        process,
-        &assigned,
-        clock,
-        reset,
-        high,
-        body,
-        number_of_part,
-    )?;
+    match resets_all(alloc, design, process.place, body, bits) {
+        Ok(()) => {}
+        Err(fault) => return Err(fault),
+    }
+    let part = list.parts.len();
+    let flops = match pinned_flops(
+        alloc, design, process, &assigned, clock, reset, high, body, part,
+    ) {
+        Ok(flops) => flops,
+        Err(fault) => return Err(fault),
+    };
     let part = Part {
         process: number,
         bits: assigned.bits,
         body: at_clock.body,
     };
-    put_part(list, &flops, part)?;
-    Ok(())
+    match put_part(list, &flops, part) {
+        Ok(()) => Ok(()),
+        Err(_) => Err(FlopFault::Memory),
+    }
 }
 
 /// The flops of a process of that form.
