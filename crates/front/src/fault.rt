@@ -1,6 +1,7 @@
 //! Why a text is no design.
 
 use elab_names::ElabFault;
+use flop_infer::FlopFault;
 use thiserror::Error;
 use vlog_lex::LexFault;
 use vlog_parse::ParseFault;
@@ -16,4 +17,6 @@ pub enum FrontFault {
     Parse(ParseFault),
     #[error("the modules are no design")]
     Elab(ElabFault),
+    #[error("a process of the design is refused")]
+    Flop(FlopFault),
 }
